@@ -1,0 +1,4 @@
+pub mod Sets
+pub mod Compositions
+pub mod Names
+pub mod Faults

@@ -1,0 +1,125 @@
+use crate::checks::{check_laws, first_repeat};
+use crate::compose::Compose;
+use crate::rel::Rel;
+use crate::table::Table;
+use std::alloc::Global;
+use std::marker::Model;
+
+/// Why a table is no calculus. The checks come in this order, and the first that fails is named with its first place.
+#[derive(Clone, Copy, Debug, PartialEq, Eq)]
+pub enum TableFault {
+    /// The name at place `at` stands at an earlier place too.
+    NameTwice { at: u32 },
+    /// The converse of the converse of `r` is another, or the identity `r` isn't its own converse.
+    NotInvolution { r: u32 },
+    /// The identity composed with `r`, on one side, isn't `r` alone.
+    IdentityLaw { r: u32 },
+    /// `t` is in `r;s` or its converse in the composition of the converses turned round, and not both.
+    ConverseLaw { r: u32, s: u32, t: u32 },
+    /// `t` is in `r;s` or `r` in `t;(the converse of s)`, and not both.
+    CycleLaw { r: u32, s: u32, t: u32 },
+    /// Want of memory.
+    Memory,
+}
+
+/// A calculus: named base relations with an identity, converses and compositions that obey the four laws.
+#[derive(Debug, Drop)]
+pub struct Calculus {
+    names: Vec<String>,
+    table: Table,
+}
+
+impl Model for Calculus {
+    ghost use Rattle.std.specs.Prelude.{◌≡◌, length, map};
+    ghost use Rattle.std.specs.String.{string_bytes};
+    ghost use Rattle.calculus_table.specs.Calculus.{Named, IsCalculus, AreDistinct, NamesItsBases};
+
+    ghost Value = { Named };
+
+    ghost view = { λ a. record { names = map string_bytes a.names.items; meaning = a.table } };
+
+    ghost invariant = { λ a. NamesItsBases (record { names = map string_bytes a.names.items; meaning = a.table }) };
+}
+
+impl Calculus {
+    ghost use Rattle.std.specs.Prelude.{◌≡◌, ◌≢◌, ℕ, ◌+◌, ◌*◌, ◌-◌, ◌^◌, ◌<◌, ◌≤◌, map, length, slice_index, slice_get, IfOk, IfErr, MatchOption, Some};
+    ghost use Rattle.std.specs.String.{string_bytes};
+    ghost use Rattle.calculus_table.specs.Rel.{IsWithin};
+    ghost use Rattle.calculus_table.specs.Meaning.{Meaning};
+    ghost use Rattle.calculus_table.specs.Calculus.{Named, IsTable, IsCalculus, AreDistinct, NamesItsBases};
+    ghost use Rattle.calculus_table.specs.TableFault.{IsFaultOf};
+
+    /// A calculus of `names`, with the identity `id`, the converse of each base relation and the composition of `r` and `s` at
+    /// `r * n + s` of `table`, where `n` is the number of names.
+    pub fn new(
+        alloc: Global,
+        names: Vec<String>,
+        id: u32,
+        conv: &[u32],
+        table: &[Rel],
+    ) -> Result<Calculus, TableFault>
+        requires { IsTable (record { size = length names.items; identity = id; converses = conv.now; table = table.now }) }
+        ensures ok { IfOk result (λ c. c ≡ record {
+          names = map string_bytes names.items;
+          meaning = record { size = length names.items; identity = id; converses = conv.now; table = table.now };
+        }) }
+        ensures lawful { IfOk result NamesItsBases }
+        ensures fault { IfErr result (IsFaultOf (map string_bytes names.items)
+            (record { size = length names.items; identity = id; converses = conv.now; table = table.now })) }
+    {
+        let converses = conv.to_vec(alloc).map_err(|_| TableFault::Memory)?;
+        let entries = table.to_vec(alloc).map_err(|_| TableFault::Memory)?;
+        let table = Table::new(names.len() as u32, id, converses, entries);
+        if let Some(at) = first_repeat(&names) {
+            return Err(TableFault::NameTwice { at });
+        }
+        check_laws(&table)?;
+        Ok(Calculus { names, table })
+    }
+
+    /// The name of the base relation `r`.
+    pub fn name(&self, r: u32) -> &str
+        requires { r < self.now.meaning.size }
+        ensures { slice_get self.now.names r ≡ Some result.now }
+    {
+        self.names[r as usize].as_str()
+    }
+
+    /// The base relation of this name.
+    pub fn find(&self, name: &[u8]) -> Option<u32>
+        ensures { MatchOption result
+            ((r : ℕ) → slice_get self.now.names r ≢ Some name.now)
+            (λ r. (r < self.now.meaning.size) × (slice_get self.now.names r ≡ Some name.now)) }
+    {
+        for r in 0..self.names.len() {
+            if self.names[r].as_bytes() == name {
+                return Some(r as u32);
+            }
+        }
+        None
+    }
+}
+
+impl Compose for Calculus {
+    ghost meaning = { λ c. c.meaning };
+
+    fn size(&self) -> u32 {
+        self.table.size()
+    }
+
+    fn identity(&self) -> u32 {
+        self.table.identity()
+    }
+
+    fn full(&self) -> Rel {
+        self.table.full()
+    }
+
+    fn converse(&self, a: Rel) -> Rel {
+        self.table.converse(a)
+    }
+
+    fn compose(&self, a: Rel, b: Rel) -> Rel {
+        self.table.compose(a, b)
+    }
+}

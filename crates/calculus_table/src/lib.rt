@@ -1,0 +1,21 @@
+//! Sets of base relations, calculi with their four laws, and composition.
+#![tactic(auto)]
+
+mod calculus;
+mod checks;
+mod compose;
+mod laws;
+mod rel;
+mod table;
+
+pub use calculus::{Calculus, TableFault};
+pub use compose::Compose;
+pub use laws::laws_of_sets;
+pub use rel::Rel;
+
+/// The greatest number of base relations that a calculus may have.
+pub const MAX_BASES: u32 = 32;
+
+/// Want of memory.
+#[derive(Clone, Copy, Debug, PartialEq, Eq)]
+pub struct Memory;
