@@ -1,0 +1,11 @@
+//! Networks of sets of base relations, and what it means that one is closed.
+#![tactic(auto)]
+
+mod fact;
+mod net;
+
+pub use fact::Fact;
+pub use net::{Net, NetFault};
+
+/// The greatest number of nodes that a network may have.
+pub const MAX_NODES: u32 = 128;

@@ -1,0 +1,150 @@
+use crate::MAX_NODES;
+use calculus_table::{Compose, Rel};
+use std::alloc::Global;
+use std::marker::Model;
+
+/// Why a network can't be made or changed.
+#[derive(Clone, Copy, Debug, PartialEq, Eq)]
+pub enum NetFault {
+    /// The number of nodes is 0 or above the limit.
+    Nodes,
+    /// The fact at place `at` names a node that isn't there.
+    NoNode { at: u32 },
+    /// The fact at place `at` has one node twice.
+    SelfEdge { at: u32 },
+    /// The name at place `at` stands at an earlier place too.
+    NameTwice { at: u32 },
+    /// Want of memory.
+    Memory,
+}
+
+/// A network: a set of base relations for each pair of nodes, and names of the nodes, none or one for each.
+#[derive(Debug, Drop)]
+pub struct Net {
+    nodes: u32,
+    full: Rel,
+    words: Vec<u64>,
+    names: Vec<String>,
+}
+
+impl Model for Net {
+    ghost use Rattle.std.specs.Prelude.{map};
+    ghost use Rattle.std.specs.String.{string_bytes};
+    ghost use Rattle.network_words.specs.Network.{Network, IsShaped};
+
+    ghost Value = { Network };
+
+    ghost view = { λ a. record { nodes = a.nodes; full = a.full; words = a.words.items; names = map string_bytes a.names.items } };
+
+    ghost invariant = { λ a. IsShaped (record { nodes = a.nodes; full = a.full; words = a.words.items; names = map string_bytes a.names.items }) };
+}
+
+impl Net {
+    ghost use Rattle.std.specs.Prelude.{◌≡◌, ℕ, ◌<◌, ◌≤◌, ◌↔◌, ◌⊎◌, [], replicate, slice_index, slice_set, IfOk, IfErr, IsErrOf};
+    ghost use Rattle.calculus_table.specs.Rel.{IsWithin};
+    ghost use Rattle.calculus_table.specs.Composition.{full_of};
+    ghost use Rattle.network_words.specs.Edge.{edge_count, edge_at, IsProperPair};
+    ghost use Rattle.network_words.specs.Network.{Network, IsNetwork, IsShaped, set_at, met_at};
+
+    /// A network without names, whose every set is `full`.
+    pub fn new(alloc: Global, nodes: u32, full: Rel) -> Result<Net, NetFault>
+        ensures ok { IfOk result (λ net. net ≡ record { nodes = nodes; full = full; words = replicate (edge_count nodes) full; names = [] }) }
+        ensures nodes { IsErrOf result NetFault.Nodes ↔ (nodes ≡ 0) ⊎ (MAX_NODES < nodes) }
+        ensures fault { IfErr result (λ e. (e ≡ NetFault.Nodes) ⊎ (e ≡ NetFault.Memory)) }
+    {
+        if nodes == 0 || nodes > MAX_NODES {
+            return Err(NetFault::Nodes);
+        }
+        let count = nodes * (nodes - 1) / 2;
+        let words = vec![in alloc; full.word(); count as usize].map_err(|_| NetFault::Memory)?;
+        Ok(Net {
+            nodes,
+            full,
+            words,
+            names: Vec::new(alloc),
+        })
+    }
+
+    /// The number of nodes.
+    pub fn nodes(&self) -> u32
+        ensures value { result ≡ self.now.nodes }
+        ensures shape { IsShaped self.now }
+    {
+        self.nodes
+    }
+
+    /// The set that the network was opened with.
+    pub fn full(&self) -> Rel
+        ensures { result ≡ self.now.full }
+    {
+        self.full
+    }
+
+    /// The number of edges.
+    pub fn edges(&self) -> u32
+        ensures { result ≡ edge_count self.now.nodes }
+    {
+        self.nodes * (self.nodes - 1) / 2
+    }
+
+    /// The number of the edge from `i` to `j`.
+    pub fn edge(&self, i: u32, j: u32) -> u32
+        requires order { i < j }
+        requires below { j < self.now.nodes }
+        ensures value { result ≡ edge_at self.now.nodes i j }
+        ensures below { result < edge_count self.now.nodes }
+    {
+        i * (2 * self.nodes - i - 1) / 2 + (j - i - 1)
+    }
+
+    /// The set of an edge.
+    pub fn word(&self, edge: u32) -> Rel
+        requires { edge < edge_count self.now.nodes }
+        ensures { result ≡ slice_index self.now.words edge }
+    {
+        Rel::of(self.words[edge as usize])
+    }
+
+    /// The sets of all edges, in edge order.
+    pub fn words(&self) -> &[u64]
+        ensures { result.now ≡ self.now.words }
+    {
+        &self.words
+    }
+
+    /// Sets the set of an edge.
+    pub fn set(&mut self, edge: u32, rel: Rel)
+        requires { edge < edge_count self.old.nodes }
+        ensures { self.new ≡ record self.old { words = slice_set self.old.words edge rel } }
+    {
+        self.words[edge as usize] = rel.word();
+    }
+
+    /// The set of the pair `(i, j)`, turned by the converse where `i > j`.
+    pub fn get<C: Compose>(&self, c: &C, i: u32, j: u32) -> Rel
+        requires proper { IsProperPair self.now.nodes i j }
+        requires within { IsNetwork (C.meaning c.now) self.now.nodes self.now.words }
+        ensures value { result ≡ set_at (C.meaning c.now) self.now.nodes self.now.words i j }
+        ensures within { IsWithin result (full_of (C.meaning c.now)) }
+    {
+        if i < j {
+            self.word(self.edge(i, j))
+        } else {
+            c.converse(self.word(self.edge(j, i)))
+        }
+    }
+
+    /// Meets the set of the pair `(i, j)` with `rel`.
+    pub fn narrow<C: Compose>(&mut self, c: &C, i: u32, j: u32, rel: Rel)
+        requires proper { IsProperPair self.old.nodes i j }
+        requires within { IsWithin rel (full_of (C.meaning c.now)) }
+        ensures { self.new ≡ record self.old { words = met_at (C.meaning c.now) self.old.nodes self.old.words i j rel } }
+    {
+        let (edge, rel) = if i < j {
+            (self.edge(i, j), rel)
+        } else {
+            (self.edge(j, i), c.converse(rel))
+        };
+        self.set(edge, self.word(edge).meet(rel));
+    }
+}
