@@ -1,7 +1,7 @@
 -- The numbers of edges: their rows, their bound, and that different pairs have different numbers.
-use Rattle.std.proofs.Common.{◌≡◌, ◌≢◌, ℕ, zero, suc, ◌+◌, ◌-◌, ◌*◌, ◌/◌, ◌<◌, ◌≤◌, refl, sym, ◌∙◌, ap, subst, arith, ◌⊎◌, inl, inr, add-zero, add-suc}
+use Rattle.std.proofs.Common.{◌≡◌, ℕ, zero, suc, ◌+◌, ◌-◌, ◌*◌, ◌/◌, ◌<◌, ◌≤◌, refl, ◌∙◌, ap, subst, arith, inl, inr, add-zero, add-suc}
 use Rattle.std.proofs.lemmas.Bool.{cases_lt}
-use Rattle.network_words.specs.Edge.{edge_count, edge_at, IsProperPair}
+use Rattle.network_words.specs.Edge.{edge_count, edge_at}
 
 -- the number of the first edge of node i
 pub row_start : ℕ → ℕ → ℕ

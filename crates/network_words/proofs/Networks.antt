@@ -1,17 +1,17 @@
 -- Networks by their pairs: how a set of a pair turns, what meeting it does, and when a network is closed.
-use Rattle.std.proofs.Common.{◌≡◌, ◌≢◌, ℕ, suc, ◌+◌, ◌-◌, ◌<◌, ◌≤◌, Bool, true, false, cond, ltb, List, length, get_or, set, refl, sym, ◌∙◌, ap, subst, arith, ◌⊎◌, inl, inr}
+use Rattle.std.proofs.Common.{◌≡◌, ◌≢◌, ℕ, ◌<◌, ◌≤◌, cond, List, length, get_or, set, refl, sym, ◌∙◌, ap, subst, arith, ◌⊎◌, inl, inr}
 use Rattle.std.specs.Prelude.{bit_and, slice_index, slice_set}
-use Rattle.std.proofs.lemmas.Bool.{cases_lt, cases_eq, ltb-true, ltb-false, lt-ltb, le-ltb}
+use Rattle.std.proofs.lemmas.Bool.{cases_lt, cases_eq, lt-ltb, le-ltb}
 use Rattle.std.proofs.lemmas.List.{length-set, get_or-set_same, get_or-set_other}
 use Rattle.std.proofs.lemmas.Grind.{same_number_lists}
 use Rattle.std.proofs.Math.ListN.{get_or-eq_default}
-use Rattle.calculus_table.specs.Rel.{Has, IsWithin}
+use Rattle.calculus_table.specs.Rel.{IsWithin}
 use Rattle.calculus_table.specs.Meaning.{Meaning}
 use Rattle.calculus_table.specs.Composition.{full_of, composition, converse}
 use Rattle.calculus_table.specs.Calculus.{IsCalculus, IsTable}
 use Rattle.calculus_table.proofs.Sets.{IsWithin-refl, IsWithin-trans, IsWithin-antisym, IsWithin-meet, IsWithin-meet_l, IsWithin-meet_r}
 use Rattle.calculus_table.proofs.Compositions.{converse-mono, converse-within, converse-converse, converse-composition, composition-mono}
-use Rattle.network_words.specs.Edge.{edge_count, edge_at, IsProperPair, IsProperTriple}
+use Rattle.network_words.specs.Edge.{edge_at, IsProperPair, IsProperTriple}
 use Rattle.network_words.specs.Network.{IsNetwork, AreWithin, set_at, met_at}
 use Rattle.network_words.specs.Closure.{IsClosed, IsClosure}
 use Rattle.network_words.proofs.Edges.{edge_at-lt}

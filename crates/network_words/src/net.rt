@@ -40,7 +40,7 @@ impl Model for Net {
 }
 
 impl Net {
-    ghost use Rattle.std.specs.Prelude.{◌≡◌, ℕ, ◌<◌, ◌≤◌, ◌↔◌, ◌⊎◌, [], replicate, slice_index, slice_set, IfOk, IfErr, IsErrOf};
+    ghost use Rattle.std.specs.Prelude.{◌≡◌, ℕ, ◌<◌, ◌≤◌, ◌↔◌, ◌⊎◌, [], replicate, slice_index, slice_set, IfOk, IfErr, IsErrOf, MatchOption, slice_get, Some};
     ghost use Rattle.calculus_table.specs.Rel.{IsWithin};
     ghost use Rattle.calculus_table.specs.Composition.{full_of};
     ghost use Rattle.network_words.specs.Edge.{edge_count, edge_at, IsProperPair};
@@ -118,6 +118,20 @@ impl Net {
         ensures { self.new ≡ record self.old { words = slice_set self.old.words edge rel } }
     {
         self.words[edge as usize] = rel.word();
+    }
+
+    /// The name of a node, where the nodes have names.
+    pub fn name(&self, node: u32) -> Option<&str>
+        requires { node < self.now.nodes }
+        ensures { MatchOption result
+            (self.now.names ≡ [])
+            (λ name. slice_get self.now.names node ≡ Some name.now) }
+    {
+        if self.names.is_empty() {
+            None
+        } else {
+            Some(self.names[node as usize].as_str())
+        }
     }
 
     /// The set of the pair `(i, j)`, turned by the converse where `i > j`.

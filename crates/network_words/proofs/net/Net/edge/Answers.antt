@@ -1,4 +1,4 @@
-use Rattle.std.proofs.Common.{◌≡◌, refl}
+use Rattle.std.proofs.Common.{refl}
 use Rattle.network_words.specs.Edge.{edge_at}
 use Rattle.network_words.proofs.Edges.{edge_at-lt}
 use Rattle.network_words.proofs.net.Net.edge.Goals as goal

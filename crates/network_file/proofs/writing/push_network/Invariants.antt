@@ -1,0 +1,9 @@
+use Rattle.std.proofs.Common.{◌≡◌, ◌++◌, codes}
+use Rattle.std.specs.Fmt.{decimal}
+use Rattle.std.specs.String.{string_bytes}
+use Rattle.network_file.specs.NetworkText.{text_below, row_text, names_line}
+use Rattle.network_file.proofs.writing.push_network.Given as goal
+
+abbrev pub invariant-loop-i : goal.invariant-loop-i
+invariant-loop-i l =
+    string_bytes l.text ≡ (string_bytes l.fn.text ++ codes "nodes " ++ decimal l.net.nodes ++ codes "\n" ++ names_line l.net) ++ text_below l.i (row_text l.c l.net)

@@ -1,0 +1,7 @@
+use Rattle.std.proofs.Common.{◌≡◌, ◌++◌}
+use Rattle.std.specs.String.{string_bytes}
+use Rattle.network_file.specs.NetworkText.{text_below, later_line}
+use Rattle.network_file.proofs.writing.push_row.Given as goal
+
+abbrev pub invariant-loop-j : goal.invariant-loop-j
+invariant-loop-j l = string_bytes l.text ≡ string_bytes l.fn.text ++ text_below l.j (later_line l.c l.net l.i)

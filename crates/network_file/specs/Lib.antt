@@ -1,0 +1,2 @@
+pub mod NetworkText
+pub use Rattle.network_words.specs.Network

@@ -1,0 +1,46 @@
+-- The canonical text of a network.
+use Rattle.std.specs.Prelude.{ℕ, zero, suc, List, [], ◌++◌, length, nat_lt, ◌==◌, if◌then◌else◌, slice_get, slice_index, unwrap_or, codes}
+use Rattle.std.specs.Int.{bit_at}
+use Rattle.std.specs.Fmt.{decimal}
+use Rattle.calculus_table.specs.Calculus.{Named}
+use Rattle.network_words.specs.Edge.{edge_at}
+use Rattle.network_words.specs.Network.{Network}
+
+-- the texts f 0, .., f (n - 1), one after another
+unfoldable pub text_below : ℕ → (ℕ → List ℕ) → List ℕ
+text_below zero f = []
+text_below (suc n) f = text_below n f ++ f n
+
+-- a name and a space
+abbrev pub word_text : List (List ℕ) → ℕ → List ℕ
+word_text names k = unwrap_or (slice_get names k) [] ++ codes " "
+
+-- the name of the base relation r and a space, where r is a member of a
+abbrev pub member_text : Named → ℕ → ℕ → List ℕ
+member_text c a r = if bit_at a r == 1 then word_text c.names r else []
+
+-- a set in brackets: the names of its members in ascending order
+abbrev pub set_text : Named → ℕ → List ℕ
+set_text c a = codes "( " ++ text_below c.meaning.size (member_text c a) ++ codes ")"
+
+-- the line of an edge: its nodes and its set
+abbrev pub edge_line : Named → Network → ℕ → ℕ → List ℕ
+edge_line c net i j =
+    decimal i ++ codes " " ++ decimal j ++ codes " " ++ set_text c (slice_index net.words (edge_at net.nodes i j)) ++ codes "\n"
+
+-- the lines of the edges from i, in edge order
+abbrev pub later_line : Named → Network → ℕ → ℕ → List ℕ
+later_line c net i j = if nat_lt i j then edge_line c net i j else []
+
+abbrev pub row_text : Named → Network → ℕ → List ℕ
+row_text c net i = text_below net.nodes (later_line c net i)
+
+-- the line of the nodes' names, where they have names
+abbrev pub names_line : Network → List ℕ
+names_line net =
+    if length net.names == 0 then [] else codes "names ( " ++ text_below net.nodes (word_text net.names) ++ codes ")\n"
+
+-- the header, the names, a line for each edge, and the end line
+abbrev pub network_text : Named → Network → List ℕ
+network_text c net =
+    codes "nodes " ++ decimal net.nodes ++ codes "\n" ++ names_line net ++ text_below net.nodes (row_text c net) ++ codes ".\n"
