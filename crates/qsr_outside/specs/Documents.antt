@@ -1,0 +1,19 @@
+-- The named documents of a shelf.
+use Rattle.std.specs.Prelude.{◌≡◌, ℕ, List, Option, None, Some, MatchOption}
+use Rattle.std.specs.Ordering.{nat_cmp}
+use Rattle.std.specs.Cmp.Lexicographic.{slice_cmp}
+use Rattle.std.specs.FinMap as map
+use Rattle.qsr_outside.specs.Counts.{RoseBy}
+
+-- a finite map from names to documents, both of bytes
+abbrev pub Documents : Type 0
+Documents = map.FinMap (slice_cmp nat_cmp) (List ℕ)
+
+-- the document of a name, if the map has the name
+abbrev pub document : Documents → List ℕ → Option (List ℕ)
+document documents name = map.get documents name
+
+-- an opening of a name that no document has is counted, and no other
+abbrev pub CountsOpening : Option Documents → List ℕ → ℕ → ℕ → Type 0
+CountsOpening None name old new = new ≡ old
+CountsOpening (Some documents) name old new = MatchOption (document documents name) (RoseBy old new 1) (λ _. new ≡ old)

@@ -1,0 +1,4 @@
+pub mod Counts
+pub mod Documents
+pub mod Reading
+pub mod Writing

@@ -1,0 +1,7 @@
+/// A call to the outside did not succeed. The count of faults of the object that was called rose.
+#[derive(Clone, Copy, Debug, PartialEq, Eq)]
+pub struct Failed;
+
+/// Memory was wanted and not given.
+#[derive(Clone, Copy, Debug, PartialEq, Eq)]
+pub struct Memory;

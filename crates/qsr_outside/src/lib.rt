@@ -1,0 +1,17 @@
+//! The outside of the reasoner: where bytes come from and where they go.
+//!
+//! Sources, sinks, shelves and gates are traits whose ghost members are their meaning. Code above is generic over them,
+//! and is proved against that meaning alone. Three forms in memory stand in for real streams in tests.
+#![tactic(auto)]
+
+mod answers;
+mod gates;
+mod reading;
+mod shelves;
+mod writing;
+
+pub use answers::{Failed, Memory};
+pub use gates::{Gate, NoGate};
+pub use reading::{ReadStop, Source, read_all};
+pub use shelves::Shelf;
+pub use writing::{Sink, WriteStop, write_all};
