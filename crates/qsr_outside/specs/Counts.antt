@@ -18,3 +18,7 @@ pub record RoseBy (old new n : ℕ) : Type 0 where
   pub never_fell : old ≤ new
   pub at_most : new ≤ old + n
   pub at_least : min (old + n) last_count ≤ new
+
+-- the counter after n more, at its last value from there on
+abbrev pub count_after : ℕ → ℕ → ℕ
+count_after old n = min (old + n) last_count

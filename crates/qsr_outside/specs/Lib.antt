@@ -1,4 +1,5 @@
 pub mod Counts
 pub mod Documents
+pub mod InMemory
 pub mod Reading
 pub mod Writing

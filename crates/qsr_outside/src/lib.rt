@@ -5,12 +5,15 @@
 #![tactic(auto)]
 
 mod answers;
+mod bytes_source;
+mod calls;
 mod gates;
 mod reading;
 mod shelves;
 mod writing;
 
 pub use answers::{Failed, Memory};
+pub use bytes_source::BytesSource;
 pub use gates::{Gate, NoGate};
 pub use reading::{ReadStop, Source, read_all};
 pub use shelves::Shelf;
