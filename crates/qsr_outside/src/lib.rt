@@ -5,6 +5,7 @@
 #![tactic(auto)]
 
 mod answers;
+mod bytes_sink;
 mod bytes_source;
 mod calls;
 mod gates;
@@ -13,6 +14,7 @@ mod shelves;
 mod writing;
 
 pub use answers::{Failed, Memory};
+pub use bytes_sink::BytesSink;
 pub use bytes_source::BytesSource;
 pub use gates::{Gate, NoGate};
 pub use reading::{ReadStop, Source, read_all};
