@@ -1,2 +1,3 @@
 pub mod Pieces
 pub mod SoFar
+pub mod StoredLemmas

@@ -3,7 +3,8 @@ use Rattle.std.specs.Prelude.{◌≡◌, ℕ, List, Option, None, Some, MatchOpt
 use Rattle.std.specs.Ordering.{nat_cmp}
 use Rattle.std.specs.Cmp.Lexicographic.{slice_cmp}
 use Rattle.std.specs.FinMap as map
-use Rattle.qsr_outside.specs.Counts.{RoseBy}
+use Rattle.std.specs.Option.{option_map_or}
+use Rattle.qsr_outside.specs.Counts.{RoseBy, count_after}
 
 -- a finite map from names to documents, both of bytes
 abbrev pub Documents : Type 0
@@ -17,3 +18,7 @@ document documents name = map.get documents name
 abbrev pub CountsOpening : Option Documents → List ℕ → ℕ → ℕ → Type 0
 CountsOpening None name old new = new ≡ old
 CountsOpening (Some documents) name old new = MatchOption (document documents name) (RoseBy old new 1) (λ _. new ≡ old)
+
+-- the number of openings of absent names after one of this name
+abbrev pub absent_openings_after : Documents → List ℕ → ℕ → ℕ
+absent_openings_after documents name old = option_map_or (λ _. old) (document documents name) (count_after old 1)

@@ -99,8 +99,9 @@ impl Source for BytesSource {
             self.calls.count_fault();
             return Err(Failed);
         }
-        let n = self.piece.min(buf.len()).min(self.bytes.len() - self.at);
-        buf[..n].copy_from_slice(&self.bytes[self.at..self.at + n]);
+        let left = self.left();
+        let n = self.piece.min(buf.len()).min(left.len());
+        buf[..n].copy_from_slice(&left[..n]);
         self.at += n;
         self.given = self.given.saturating_add(n as u64);
         Ok(n)

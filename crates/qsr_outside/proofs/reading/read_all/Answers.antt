@@ -1,4 +1,4 @@
-use Rattle.std.proofs.Common.{◌≡◌, ◌++◌, take, arith, rules}
+use Rattle.std.proofs.Common.{arith, rules}
 use Rattle.std.proofs.lemmas.Grind.{common_steps}
 use Rattle.qsr_outside.proofs.SoFar.{read_too_much, read_too_much_untold, read_more, read_none}
 use Rattle.qsr_outside.proofs.reading.read_all.Goals as goal

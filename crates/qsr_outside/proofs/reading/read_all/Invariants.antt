@@ -1,4 +1,4 @@
-use Rattle.std.proofs.Common.{◌≡◌, ◌+◌, ◌-◌, length, vec_len}
+use Rattle.std.proofs.Common.{◌≡◌, ◌+◌, ◌-◌, vec_len}
 use Rattle.qsr_outside.proofs.SoFar.{ReadSoFar}
 use Rattle.qsr_outside.proofs.reading.read_all.Given as goal
 
