@@ -1,0 +1,28 @@
+-- The tokens of a text, each with its line and its place.
+use Rattle.std.specs.Prelude.{ℕ, zero, suc, ◌+◌, List, [], ◌∷◌, ◌++◌, length, if◌then◌else◌}
+use Rattle.qsr_lex.specs.Bytes.{is_blank}
+use Rattle.qsr_lex.specs.Lexemes.{tail_len, kind_of}
+use Rattle.qsr_lex.specs.TextLines.{text_lines, outside}
+use Rattle.qsr_lex.specs.declared.tokens.Token.{Token}
+
+-- the token that begins with the first byte, which is byte `at` of the text and stands in this line; a blank begins none
+abbrev pub token_here : ℕ → ℕ → List ℕ → List Token
+token_here line at [] = []
+token_here line at (b ∷ bs) =
+    if is_blank b then []
+    else record { line = line; start = at; end = at + (1 + tail_len (b ∷ bs)); kind = kind_of (b ∷ bs) } ∷ []
+
+-- the tokens behind `skip` bytes that belong to a token before
+abbrev pub tokens_behind : ℕ → ℕ → ℕ → List ℕ → List Token
+tokens_behind line at skip [] = []
+tokens_behind line at zero (b ∷ bs) = token_here line at (b ∷ bs) ++ tokens_behind line (at + 1) (tail_len (b ∷ bs)) bs
+tokens_behind line at (suc skip) (b ∷ bs) = tokens_behind line (at + 1) skip bs
+
+-- the tokens of the lines, of which the first has this number and begins with byte `at` of the text
+abbrev pub tokens_of_lines : ℕ → ℕ → List (List ℕ) → List Token
+tokens_of_lines line at [] = []
+tokens_of_lines line at (l ∷ ls) = tokens_behind line at 0 (outside l) ++ tokens_of_lines (line + 1) (at + length l) ls
+
+-- the tokens of a text, in order
+abbrev pub tokens_of : List ℕ → List Token
+tokens_of bytes = tokens_of_lines 1 0 (text_lines bytes)
