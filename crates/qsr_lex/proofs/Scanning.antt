@@ -1,6 +1,6 @@
 -- How the lines of a text and the tokens of a line come off its front.
 use Rattle.std.proofs.Common.{◌≡◌, ℕ, zero, suc, ◌+◌, ◌-◌, ◌<◌, ◌≤◌, Bool, true, false, cond, List, [], ◌∷◌, ◌++◌, length, take, drop, get_or, Some, refl, sym, ◌∙◌, ap, arith, append_assoc}
-use Rattle.std.proofs.lemmas.List.{drop_more}
+use Rattle.std.proofs.lemmas.List.{drop_more, append-nil}
 use Rattle.qsr_lex.specs.Bytes.{is_lf}
 use Rattle.qsr_lex.specs.TextLines.{add_byte, text_lines, first_line_len, starts_with_end, outside, is_clean, bad_line_from}
 use Rattle.qsr_lex.specs.Lexemes.{tail_len, kind_of}
@@ -126,3 +126,12 @@ line_tokens-step sofar now all n at taken rest after told some is_taken is_after
     let front = tokens_behind-front n at rest some in
     let regrouped = append_assoc sofar (token_here n at rest) (tokens_behind n (at + taken) 0 after) in
     cc (front, regrouped)
+
+-- nothing is left
+pub tokens-all : (sofar all : List Token) (n at : ℕ) (rest : List ℕ) → length rest ≡ 0 → sofar ++ tokens_of_lines n at (text_lines rest) ≡ all → sofar ≡ all
+tokens-all sofar all n at [] h told = sym (append-nil sofar) ∙ told
+tokens-all sofar all n at (b ∷ bs) h told = absurd (omega arith)
+
+pub count-all : (count all : ℕ) (rest : List ℕ) → length rest ≡ 0 → count + length (text_lines rest) ≡ all → count ≡ all
+count-all count all [] h told = omega arith
+count-all count all (b ∷ bs) h told = absurd (omega arith)

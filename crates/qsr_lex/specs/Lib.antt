@@ -4,4 +4,5 @@ pub mod Names
 pub mod TextLines
 pub mod Lexemes
 pub mod Tokens
+pub mod TokenLines
 pub mod Stops

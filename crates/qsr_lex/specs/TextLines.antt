@@ -1,6 +1,6 @@
 -- The lines of a text, and what of each stands outside comments.
-use Rattle.std.specs.Prelude.{ℕ, ◌+◌, List, [], ◌∷◌, length, take, Bool, true, false, ◌&&◌, ◌||◌, ◌==◌, Option, Some, None, if◌then◌else◌}
-use Rattle.std.specs.List.{list_all, flat_map}
+use Rattle.std.specs.Prelude.{ℕ, ◌+◌, List, [], ◌∷◌, Bool, true, false, not, count_by, ◌&&◌, ◌||◌, ◌==◌, Option, Some, None, if◌then◌else◌}
+use Rattle.std.specs.List.{list_all}
 use Rattle.qsr_lex.specs.Bytes.{is_lf, is_hash, is_allowed}
 
 -- one byte more in front of the lines: an LF is a line of its own, any other byte belongs to the line behind it
@@ -13,9 +13,15 @@ abbrev pub text_lines : List ℕ → List (List ℕ)
 text_lines [] = []
 text_lines (b ∷ bs) = add_byte b (text_lines bs)
 
+-- bytes follow the last LF
+abbrev pub lacks_last_lf : List ℕ → Bool
+lacks_last_lf [] = false
+lacks_last_lf (b ∷ []) = not (is_lf b)
+lacks_last_lf (b ∷ c ∷ bs) = lacks_last_lf (c ∷ bs)
+
 -- how many lines a text has: as many as LFs, and one more where bytes follow the last LF
 abbrev pub line_count : List ℕ → ℕ
-line_count bytes = length (text_lines bytes)
+line_count bytes = count_by is_lf bytes + (if lacks_last_lf bytes then 1 else 0)
 
 -- how many bytes the first line has, with its LF
 abbrev pub first_line_len : List ℕ → ℕ

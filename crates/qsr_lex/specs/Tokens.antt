@@ -1,5 +1,5 @@
 -- The tokens of a text, each with its line and its place.
-use Rattle.std.specs.Prelude.{ℕ, zero, suc, ◌+◌, List, [], ◌∷◌, ◌++◌, length, if◌then◌else◌}
+use Rattle.std.specs.Prelude.{ℕ, zero, suc, ◌+◌, ◌≤◌, ◌<◌, List, [], ◌∷◌, ◌++◌, length, if◌then◌else◌}
 use Rattle.qsr_lex.specs.Bytes.{is_blank}
 use Rattle.qsr_lex.specs.Lexemes.{tail_len, kind_of}
 use Rattle.qsr_lex.specs.TextLines.{text_lines, outside}
@@ -26,3 +26,9 @@ tokens_of_lines line at (l ∷ ls) = tokens_behind line at 0 (outside l) ++ toke
 -- the tokens of a text, in order
 abbrev pub tokens_of : List ℕ → List Token
 tokens_of bytes = tokens_of_lines 1 0 (text_lines bytes)
+
+-- the tokens stand one behind the other between these two offsets: none is empty, and none begins before the one
+-- before it has ended
+abbrev pub AreApart : ℕ → List Token → ℕ → Type 0
+AreApart from [] to = Unit {0}
+AreApart from (t ∷ ts) to = (from ≤ t.start) × (t.start < t.end) × (t.end ≤ to) × AreApart t.end ts to

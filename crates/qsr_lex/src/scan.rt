@@ -5,7 +5,7 @@ ghost use Rattle.std.specs.List.{list_all, prefix_len};
 ghost use Rattle.qsr_lex.specs.Bytes.{is_allowed, is_word_byte};
 ghost use Rattle.qsr_lex.specs.TextLines.{line_count, first_line_len, starts_with_lf, starts_with_end, outside, bad_line};
 ghost use Rattle.qsr_lex.specs.Lexemes.{starts_with_colon, tail_len, kind_of};
-ghost use Rattle.qsr_lex.specs.Tokens.{token_here, tokens_behind, tokens_of};
+ghost use Rattle.qsr_lex.specs.Tokens.{token_here, tokens_behind, tokens_of, AreApart};
 ghost use Rattle.qsr_lex.specs.Stops.{IsStopOf};
 
 use crate::bytes::{is_allowed, is_blank, is_word_byte};
@@ -18,6 +18,8 @@ pub fn lines(alloc: Global, bytes: &[u8]) -> Result<Lines, LexStop>
     // There are tokens only where no line has a byte outside comments that isn't allowed there.
     ensures allowed { OnOk result (bad_line bytes.now ≡ None) }
     ensures tokens { IfOk result (λ lines. lines.tokens.items ≡ tokens_of bytes.now) }
+    // Each token is the slice from its start to its end, and none of these slices overlap.
+    ensures apart { IfOk result (λ lines. AreApart 0 lines.tokens.items (length bytes.now)) }
     ensures count { IfOk result (λ lines. lines.count ≡ line_count bytes.now) }
 
     // The first line with such a byte is the one that is named.

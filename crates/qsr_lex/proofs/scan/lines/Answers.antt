@@ -1,10 +1,11 @@
-use Rattle.std.proofs.Common.{◌≡◌, ◌+◌, ◌-◌, ◌<◌, ◌++◌, Bool, true, false, length, take, drop, sym, ◌∙◌, ap, not, Some, arith, rules}
+use Rattle.std.proofs.Common.{◌≡◌, ◌+◌, ◌-◌, ◌<◌, ◌++◌, Bool, true, false, length, take, drop, sym, subst, ◌∙◌, ap, not, Some, arith, rules}
 use Rattle.std.specs.List.{list_all}
 use Rattle.std.proofs.lemmas.Grind.{common_steps}
 use Rattle.qsr_lex.specs.Bytes.{is_allowed}
-use Rattle.qsr_lex.specs.TextLines.{first_line_len, is_clean, outside}
-use Rattle.qsr_lex.specs.Tokens.{tokens_behind}
-use Rattle.qsr_lex.proofs.Scanning.{bad-here, bad-step, tokens-step, count-step}
+use Rattle.qsr_lex.specs.TextLines.{first_line_len, is_clean, outside, text_lines}
+use Rattle.qsr_lex.specs.Tokens.{tokens_behind, tokens_of, AreApart}
+use Rattle.qsr_lex.proofs.Scanning.{bad-here, bad-step, tokens-step, count-step, tokens-all, count-all}
+use Rattle.qsr_lex.proofs.Spans.{AreApart-tokens_of, length-text_lines}
 use Rattle.qsr_lex.proofs.scan.lines.Goals as goal
 
 pub loop-rest-preserved : goal.loop-rest-preserved
@@ -37,3 +38,14 @@ returns-then-not-are_allowed-clause-stop c =
     let is_line : line ≡ take (first_line_len rest) rest = cc in
     let bad : is_clean line ≡ false = ap (list_all is_allowed) (sym c.outside-part.ensures.value) ∙ sym c.are_allowed.ensures ∙ search rules in
     sym c.loop-rest.invariant.bad ∙ bad-here (c.loop-rest.count + 1) rest line some is_line bad
+
+pub returns-clause-apart : goal.returns-clause-apart
+returns-clause-apart c =
+    let none : length c.loop-rest.rest.now ≡ 0 = grind (arith, c.is_empty.ensures, c.loop-rest-test.false) in
+    let all = tokens-all c.loop-rest.tokens.items (tokens_of c.args.bytes.now) _ _ c.loop-rest.rest.now none c.loop-rest.invariant.told in
+    subst (λ ts. AreApart 0 ts (length c.args.bytes.now)) (sym all) (AreApart-tokens_of c.args.bytes.now)
+
+pub returns-clause-count : goal.returns-clause-count
+returns-clause-count c =
+    let none : length c.loop-rest.rest.now ≡ 0 = grind (arith, c.is_empty.ensures, c.loop-rest-test.false) in
+    count-all c.loop-rest.count (length (text_lines c.args.bytes.now)) c.loop-rest.rest.now none c.loop-rest.invariant.counted ∙ length-text_lines c.args.bytes.now

@@ -1,0 +1,40 @@
+-- The lines of a text that have tokens, as a reader goes over them.
+use Rattle.std.specs.Prelude.{ℕ, ◌+◌, ◌==◌, List, [], ◌∷◌, slice_range, if◌then◌else◌}
+use Rattle.qsr_lex.specs.TextLines.{text_lines, outside}
+use Rattle.qsr_lex.specs.Lexemes.{Lexeme, lexemes}
+use Rattle.qsr_lex.specs.declared.tokens.Token.{Token}
+
+-- a line with tokens: its number, and its tokens without their places
+pub record TokenLine : Type 0 where
+  pub number : ℕ
+  pub words : List Lexeme
+
+-- a line in front of others; one without tokens is passed over
+abbrev pub add_line : ℕ → List Lexeme → List TokenLine → List TokenLine
+add_line n [] rest = rest
+add_line n (x ∷ xs) rest = record { number = n; words = x ∷ xs } ∷ rest
+
+-- the lines that have tokens, where the first line has the number n
+abbrev pub token_lines_from : ℕ → List (List ℕ) → List TokenLine
+token_lines_from n [] = []
+token_lines_from n (l ∷ ls) = add_line n (lexemes (outside l)) (token_lines_from (n + 1) ls)
+
+-- the lines of a text that have tokens, in order
+abbrev pub token_lines : List ℕ → List TokenLine
+token_lines bytes = token_lines_from 1 (text_lines bytes)
+
+-- a token of a text without its place
+abbrev pub lexeme_of : List ℕ → Token → Lexeme
+lexeme_of bytes t = record { kind = t.kind; text = slice_range bytes t.start t.end }
+
+-- a token in front of lines: it belongs to the first where that has its number
+abbrev pub add_word : ℕ → Lexeme → List TokenLine → List TokenLine
+add_word n x [] = record { number = n; words = x ∷ [] } ∷ []
+add_word n x (l ∷ ls) =
+    if l.number == n then record { number = n; words = x ∷ l.words } ∷ ls
+    else record { number = n; words = x ∷ [] } ∷ l ∷ ls
+
+-- tokens of a text, line by line
+abbrev pub by_line : List ℕ → List Token → List TokenLine
+by_line bytes [] = []
+by_line bytes (t ∷ ts) = add_word t.line (lexeme_of bytes t) (by_line bytes ts)
