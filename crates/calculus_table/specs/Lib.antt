@@ -5,3 +5,4 @@ pub mod Calculus
 pub mod TripleLaw
 pub mod TableFault
 pub mod Laws
+pub mod Checked
