@@ -1,0 +1,53 @@
+ghost use Rattle.std.specs.Prelude.{◌≡◌, map, length, IfOk};
+ghost use Rattle.std.specs.String.{string_bytes};
+ghost use Rattle.calculus_table.specs.Calculus.{NamesItsBases};
+
+use calculus_table::{Calculus, Memory, Rel, TableFault};
+use std::alloc::Global;
+
+fn owned_names(alloc: Global, names: &[&str]) -> Result<Vec<String>, Memory>
+    ensures { IfOk result (λ owned. map string_bytes owned.items ≡ map (λ name. name.now) names.now) }
+{
+    let mut owned = Vec::new(alloc);
+    for name in names {
+        let text = String::from_str(alloc, name).map_err(|_| Memory)?;
+        owned.push(text).map_err(|_| Memory)?;
+    }
+    Ok(owned)
+}
+
+fn sets_of(alloc: Global, words: &[u64]) -> Result<Vec<Rel>, Memory>
+    ensures { IfOk result (λ sets. sets.items ≡ words.now) }
+{
+    words
+        .iter()
+        .map(|word| Rel::of(*word))
+        .collect(alloc)
+        .map_err(|_| Memory)
+}
+
+/// The calculus of a constant table, whose compositions are given as words.
+pub(crate) fn constant_calculus(
+    alloc: Global,
+    names: &[&str],
+    id: u32,
+    converses: &[u32],
+    words: &[u64],
+) -> Result<Calculus, Memory>
+    requires { NamesItsBases (record {
+      names = map (λ name. name.now) names.now;
+      meaning = record { size = length names.now; identity = id; converses = converses.now; table = words.now };
+    }) }
+    ensures { IfOk result (λ c. c ≡ record {
+      names = map (λ name. name.now) names.now;
+      meaning = record { size = length names.now; identity = id; converses = converses.now; table = words.now };
+    }) }
+{
+    let owned = owned_names(alloc, names)?;
+    let sets = sets_of(alloc, words)?;
+    match Calculus::new(alloc, owned, id, converses, &sets) {
+        Ok(calculus) => Ok(calculus),
+        Err(TableFault::Memory) => Err(Memory),
+        Err(_) => unreachable!(),
+    }
+}
