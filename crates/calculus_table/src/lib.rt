@@ -19,3 +19,6 @@ pub const MAX_BASES: u32 = 32;
 /// Want of memory.
 #[derive(Clone, Copy, Debug, PartialEq, Eq)]
 pub struct Memory;
+
+#[cfg(test)]
+mod tests;
