@@ -1,0 +1,16 @@
+use Rattle.std.proofs.Common.{◌≡◌, ◌||◌, subst}
+use Rattle.network_words.specs.Closure.{IsClosed}
+use Rattle.closure_seq.proofs.Narrowings.{IsNarrowing-trans, IsNarrowing-nodes, IsClosure-narrowed}
+use Rattle.closure_seq.proofs.plain.close.Goals as goal
+
+pub returns-clause-closure : goal.returns-clause-closure
+returns-clause-closure g c =
+    let m = g.C.Compose.meaning c.args.c.now in
+    let a = c.args.net.now in
+    let b = c.loop.net in
+    let after = c.sweep.new.net in
+    let s = c.loop.invariant in
+    let nodes : b.nodes ≡ a.nodes = IsNarrowing-nodes m a b s.0 s.1 in
+    IsClosure-narrowed m a after (s.0 || c.sweep.result) c.requires
+    (IsNarrowing-trans m a b after s.0 c.sweep.result s.1 c.sweep.ensures.narrowed)
+    (subst (λ n. IsClosed m n after.words) nodes (c.sweep.ensures.closed c.loop-test.false))
