@@ -5,24 +5,24 @@ use Rattle.std.specs.FinMap as map
 use Rattle.qsr_outside.specs.Counts.{count_after}
 use Rattle.qsr_outside.specs.Documents.{Documents}
 
--- the numbers of the calls that are to fail, from 0, how many calls there were, and how many of them failed
+-- the numbers of the calls that are to fail, from 0, how many calls were made, and how many of them failed
 pub record CallsState : Type 0 where
   pub failing : List ℕ
-  pub calls : ℕ
+  pub made : ℕ
   pub faults : ℕ
 
 -- no call yet
 abbrev pub no_calls : List ℕ → CallsState
-no_calls failing = record { failing = failing; calls = 0; faults = 0 }
+no_calls failing = record { failing = failing; made = 0; faults = 0 }
 
 -- one more call, which did not fail
 abbrev pub after_call : CallsState → CallsState
-after_call state = record { failing = state.failing; calls = count_after state.calls 1; faults = state.faults }
+after_call state = record { failing = state.failing; made = count_after state.made 1; faults = state.faults }
 
 -- one more call, which failed
 abbrev pub after_failed_call : CallsState → CallsState
 after_failed_call state =
-    record { failing = state.failing; calls = count_after state.calls 1; faults = count_after state.faults 1 }
+    record { failing = state.failing; made = count_after state.made 1; faults = count_after state.faults 1 }
 
 -- a source in memory
 pub record BytesSourceState : Type 0 where
@@ -50,7 +50,7 @@ pub record MapShelfState : Type 0 where
 abbrev pub calls_code : Coded CallsState
 calls_code =
     code_by (List ℕ × (ℕ × ℕ)) (coded× (coded_list coded_ℕ) (coded× coded_ℕ coded_ℕ))
-    (λ c. (c.failing, (c.calls, c.faults))) (λ p. record { failing = p.0; calls = p.1.0; faults = p.1.1 }) (λ _. refl)
+    (λ c. (c.failing, (c.made, c.faults))) (λ p. record { failing = p.0; made = p.1.0; faults = p.1.1 }) (λ _. refl)
 
 -- how a shelf is stored
 abbrev pub map_shelf_code : Coded MapShelfState

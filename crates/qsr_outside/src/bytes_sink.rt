@@ -9,8 +9,8 @@ use crate::writing::Sink;
 use std::alloc::Global;
 use std::marker::Model;
 
-/// A sink that holds bytes in memory, as many as it was given room for. It takes at most `piece` bytes in one write
-/// and fails where it is told to, or where it has no room left.
+/// A sink that holds bytes in memory, as many as it was given room for. It takes at most `piece`
+/// bytes in one write, and fails where it is told to or where it has no room left.
 #[derive(Drop)]
 pub struct BytesSink {
     bytes: Vec<u8>,
@@ -25,16 +25,30 @@ impl Model for BytesSink {
 
     ghost Value = { BytesSinkState };
 
-    ghost view = { λ s. record { held = s.bytes.items; room = s.room; piece = s.piece; calls = s.calls } };
+    ghost view = { λ s. record {
+      held = s.bytes.items;
+      room = s.room;
+      piece = s.piece;
+      calls = s.calls;
+    } };
 
-    ghost invariant = { λ s. record { room_is_there : vec_len s.bytes + s.room ≤ vec_capacity s.bytes; some_piece : 1 ≤ s.piece } };
+    ghost invariant = { λ s. record {
+      room_is_there : vec_len s.bytes + s.room ≤ vec_capacity s.bytes;
+      some_piece : 1 ≤ s.piece;
+    } };
 }
 
 impl BytesSink {
-    /// A sink that holds nothing and has no room yet. The writes whose numbers, from 0, are in `failing` fail.
+    /// A sink that holds nothing and has no room yet. The writes whose numbers, from 0, are in
+    /// `failing` fail.
     pub fn new(alloc: Global, piece: usize, failing: &[u32]) -> Result<Self, Memory>
         requires { 1 ≤ piece }
-        ensures { IfOk result (λ s. s ≡ record { held = []; room = 0; piece = piece; calls = no_calls failing.now }) }
+        ensures { IfOk result (λ s. s ≡ record {
+          held = [];
+          room = 0;
+          piece = piece;
+          calls = no_calls failing.now;
+        }) }
     {
         Ok(BytesSink {
             bytes: Vec::new(alloc),
@@ -83,15 +97,24 @@ impl Sink for BytesSink {
     ghost faults = { λ s. s.calls.faults };
 
     fn write(&mut self, piece: &[u8]) -> Result<usize, Failed>
-        ensures fails { IsErr result ↔ (Contains self.old.calls.failing self.old.calls.calls ⊎ ((self.old.room ≡ 0) × (0 < length piece.now))) }
-        ensures failed { OnErr result (self.new ≡ record self.old { calls = after_failed_call self.old.calls }) }
-        ensures count { IfOk result (λ n. n ≡ min self.old.piece (min (length piece.now) self.old.room)) }
-        ensures rest { IfOk result (λ n. self.new ≡ record self.old { held = self.old.held ++ take n piece.now; room = self.old.room - n; calls = after_call self.old.calls }) }
+        ensures fails { IsErr result
+            ↔ (Contains self.old.calls.failing self.old.calls.made
+            ⊎ ((self.old.room ≡ 0) × (0 < length piece.now))) }
+        ensures failed { OnErr result
+            (self.new ≡ record self.old { calls = after_failed_call self.old.calls }) }
+        ensures count { IfOk result
+            (λ n. n ≡ min self.old.piece (min (length piece.now) self.old.room)) }
+        ensures rest { IfOk result (λ n. self.new ≡ record self.old {
+          held = self.old.held ++ take n piece.now;
+          room = self.old.room - n;
+          calls = after_call self.old.calls;
+        }) }
 
         ensures within { IfOk result (λ n. n ≤ length piece.now) }
         ensures takes_some { IfOk result (λ n. 0 < length piece.now → 0 < n) }
         ensures takes { WriteAppends (Some self.old.held) (Some self.new.held) result piece.now }
-        ensures failed_is_counted { OnErr result (Rose self.old.calls.faults self.new.calls.faults) }
+        ensures failed_is_counted { OnErr result
+            (Rose self.old.calls.faults self.new.calls.faults) }
         ensures faults_never_fall { self.old.calls.faults ≤ self.new.calls.faults }
     {
         let is_listed = self.calls.begin();

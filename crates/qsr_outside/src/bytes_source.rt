@@ -9,7 +9,8 @@ use crate::reading::Source;
 use std::alloc::Global;
 use std::marker::Model;
 
-/// A source over bytes in memory, that gives at most `piece` bytes in one read and fails where it is told to.
+/// A source over bytes in memory, that gives at most `piece` bytes in one read and fails where it
+/// is told to.
 #[derive(Drop)]
 pub struct BytesSource {
     bytes: Vec<u8>,
@@ -25,16 +26,29 @@ impl Model for BytesSource {
 
     ghost Value = { BytesSourceState };
 
-    ghost view = { λ s. record { left = drop s.at s.bytes.items; piece = s.piece; given = s.given; calls = s.calls } };
+    ghost view = { λ s. record {
+      left = drop s.at s.bytes.items;
+      piece = s.piece;
+      given = s.given;
+      calls = s.calls;
+    } };
 
-    ghost invariant = { λ s. record { at_within : s.at ≤ vec_len s.bytes; some_piece : 1 ≤ s.piece } };
+    ghost invariant = { λ s. record {
+      at_within : s.at ≤ vec_len s.bytes;
+      some_piece : 1 ≤ s.piece;
+    } };
 }
 
 impl BytesSource {
     /// A source that has `bytes` left. The reads whose numbers, from 0, are in `failing` fail.
     pub fn new(alloc: Global, bytes: &[u8], piece: usize, failing: &[u32]) -> Result<Self, Memory>
         requires { 1 ≤ piece }
-        ensures { IfOk result (λ s. s ≡ record { left = bytes.now; piece = piece; given = 0; calls = no_calls failing.now }) }
+        ensures { IfOk result (λ s. s ≡ record {
+          left = bytes.now;
+          piece = piece;
+          given = 0;
+          calls = no_calls failing.now;
+        }) }
     {
         Ok(BytesSource {
             bytes: Vec::from_slice(alloc, bytes).map_err(|_| Memory)?,
@@ -80,19 +94,27 @@ impl Source for BytesSource {
 
     fn read(&mut self, buf: &mut [u8]) -> Result<usize, Failed>
         requires { 0 < length buf.old }
-        ensures fails { IsErr result ↔ Contains self.old.calls.failing self.old.calls.calls }
-        ensures failed { OnErr result (self.new ≡ record self.old { calls = after_failed_call self.old.calls }) }
+        ensures fails { IsErr result ↔ Contains self.old.calls.failing self.old.calls.made }
+        ensures failed { OnErr result
+            (self.new ≡ record self.old { calls = after_failed_call self.old.calls }) }
         ensures failed_buffer { OnErr result (buf.new ≡ buf.old) }
-        ensures count { IfOk result (λ n. n ≡ min self.old.piece (min (length buf.old) (length self.old.left))) }
+        ensures count { IfOk result
+            (λ n. n ≡ min self.old.piece (min (length buf.old) (length self.old.left))) }
         ensures bytes { IfOk result (λ n. buf.new ≡ take n self.old.left ++ drop n buf.old) }
-        ensures rest { IfOk result (λ n. self.new ≡ record self.old { left = drop n self.old.left; given = count_after self.old.given n; calls = after_call self.old.calls }) }
+        ensures rest { IfOk result (λ n. self.new ≡ record self.old {
+          left = drop n self.old.left;
+          given = count_after self.old.given n;
+          calls = after_call self.old.calls;
+        }) }
 
         ensures within { IfOk result (λ n. n ≤ length buf.new) }
-        ensures gives { IfOk result (λ n. Consumes (Some self.old.left) (Some self.new.left) (take n buf.new)) }
+        ensures gives { IfOk result
+            (λ n. Consumes (Some self.old.left) (Some self.new.left) (take n buf.new)) }
         ensures ends_where_none_left { IfOk result (λ n. (n ≡ 0) ↔ (self.old.left ≡ [])) }
         ensures end_leaves_none { IfOk result (λ n. n ≡ 0 → self.new.left ≡ []) }
         ensures counts { IfOk result (λ n. RoseBy self.old.given self.new.given n) }
-        ensures failed_is_counted { OnErr result (Rose self.old.calls.faults self.new.calls.faults) }
+        ensures failed_is_counted { OnErr result
+            (Rose self.old.calls.faults self.new.calls.faults) }
         ensures faults_never_fall { self.old.calls.faults ≤ self.new.calls.faults }
     {
         if self.calls.begin() {

@@ -10,7 +10,7 @@ use std::marker::Model;
 #[derive(Drop)]
 pub struct Calls {
     failing: Vec<u32>,
-    count: u64,
+    made: u64,
     faults: u64,
 }
 
@@ -19,7 +19,7 @@ impl Model for Calls {
 
     ghost Value = { CallsState };
 
-    ghost view = { λ c. record { failing = c.failing.items; calls = c.count; faults = c.faults } };
+    ghost view = { λ c. record { failing = c.failing.items; made = c.made; faults = c.faults } };
 }
 
 impl Calls {
@@ -30,7 +30,7 @@ impl Calls {
         let failing = Vec::from_slice(alloc, failing).map_err(|_| Memory)?;
         Ok(Calls {
             failing,
-            count: 0,
+            made: 0,
             faults: 0,
         })
     }
@@ -44,11 +44,11 @@ impl Calls {
 
     /// Counts one more call, and answers whether it is to fail.
     pub fn begin(&mut self) -> bool
-        ensures fails { IsTrue result ↔ Contains self.old.failing self.old.calls }
-        ensures counts { self.new ≡ record self.old { calls = count_after self.old.calls 1 } }
+        ensures fails { IsTrue result ↔ Contains self.old.failing self.old.made }
+        ensures counts { self.new ≡ record self.old { made = count_after self.old.made 1 } }
     {
-        let number = self.count;
-        self.count = self.count.saturating_add(1);
+        let number = self.made;
+        self.made = self.made.saturating_add(1);
         self.failing.iter().any(|n| u64::from(*n) == number)
     }
 

@@ -1,4 +1,5 @@
-/// A place that threads pass as their work begins and ends. Passing has no meaning: a gate can only delay.
+/// A place that threads pass as their work begins and ends. Passing has no meaning: a gate can only
+/// delay.
 pub trait Gate {
     /// Passes the point of this number.
     fn pass(&self, point: u32);

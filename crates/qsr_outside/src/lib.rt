@@ -1,7 +1,8 @@
 //! The outside of the reasoner: where bytes come from and where they go.
 //!
-//! Sources, sinks, shelves and gates are traits whose ghost members are their meaning. Code above is generic over them,
-//! and is proved against that meaning alone. Three forms in memory stand in for real streams in tests.
+//! Sources, sinks, shelves and gates are traits whose ghost members are their meaning. Code above is
+//! generic over them, and is proved against that meaning alone. Three forms in memory stand in for
+//! real streams in tests.
 #![tactic(auto)]
 
 mod answers;
@@ -12,6 +13,8 @@ mod gates;
 mod map_shelf;
 mod reading;
 mod shelves;
+#[cfg(test)]
+mod tests;
 mod writing;
 
 pub use answers::{Failed, Memory};

@@ -25,8 +25,8 @@ struct Opened {
     at: usize,
 }
 
-/// A shelf in memory, that fails where it is told to, or where an absent name is opened. Its opens are counted with its
-/// reads. While no document is open, a read gives none.
+/// A shelf in memory, that fails where it is told to or where an absent name is opened. Its opens are
+/// counted with its reads. While no document is open, a read gives no byte.
 #[derive(Drop)]
 pub struct MapShelf {
     documents: Vec<Document>,
@@ -45,7 +45,13 @@ impl Model for MapShelf {
 
     ghost use Rattle.qsr_outside.specs.StoredDocuments.{documents_of, left_of, IsWithin};
 
-    ghost view = { λ s. record { documents = documents_of s.documents.items; left = left_of s.documents.items s.opened; given = s.given; absent_openings = s.absent_openings; calls = s.calls } };
+    ghost view = { λ s. record {
+      documents = documents_of s.documents.items;
+      left = left_of s.documents.items s.opened;
+      given = s.given;
+      absent_openings = s.absent_openings;
+      calls = s.calls;
+    } };
 
     ghost invariant = { λ s. IsWithin s.documents.items s.opened };
 }
@@ -55,7 +61,13 @@ impl MapShelf {
 
     /// A shelf with no document. The calls whose numbers, from 0, are in `failing` fail.
     pub fn new(alloc: Global, failing: &[u32]) -> Result<Self, Memory>
-        ensures { IfOk result (λ s. s ≡ record { documents = map.empty; left = []; given = 0; absent_openings = 0; calls = no_calls failing.now }) }
+        ensures { IfOk result (λ s. s ≡ record {
+          documents = map.empty;
+          left = [];
+          given = 0;
+          absent_openings = 0;
+          calls = no_calls failing.now;
+        }) }
     {
         Ok(MapShelf {
             documents: Vec::new(alloc),
@@ -66,9 +78,12 @@ impl MapShelf {
         })
     }
 
-    /// Puts a document under its name, in place of one that has the name. What is left of an open document stays.
+    /// Puts a document under its name, in place of one that has the name. What is left of an open
+    /// document stays.
     pub fn put(&mut self, name: &str, bytes: &[u8]) -> Result<(), Memory>
-        ensures ok { OnOk result (self.new ≡ record self.old { documents = map.insert self.old.documents name.now bytes.now }) }
+        ensures ok { OnOk result (self.new ≡ record self.old {
+          documents = map.insert self.old.documents name.now bytes.now;
+        }) }
         ensures err { OnErr result (self.new ≡ self.old) }
     {
         let alloc = *self.documents.allocator();
@@ -117,7 +132,8 @@ impl MapShelf {
     // Where the newest document of this name stands.
     fn find(documents: &[Document], name: &[u8]) -> Option<usize>
         ensures place { result ≡ position (is_named name.now) documents.now }
-        ensures found { IfSome result (λ k. document (documents_of documents.now) name.now ≡ Some (bytes_of (slice_get documents.now k))) }
+        ensures found { IfSome result (λ k. document (documents_of documents.now) name.now
+            ≡ Some (bytes_of (slice_get documents.now k))) }
         ensures absent { IfNone result (document (documents_of documents.now) name.now ≡ None) }
     {
         documents
@@ -128,7 +144,10 @@ impl MapShelf {
     // Gives `n` of the bytes that are left.
     fn advance(&mut self, n: usize)
         requires { n ≤ length self.old.left }
-        ensures { self.new ≡ record self.old { left = drop n self.old.left; given = count_after self.old.given n } }
+        ensures { self.new ≡ record self.old {
+          left = drop n self.old.left;
+          given = count_after self.old.given n;
+        } }
     {
         self.given = self.given.saturating_add(n as u64);
         if let Some(opened) = &mut self.opened {
@@ -138,7 +157,10 @@ impl MapShelf {
 
     // Closes the document that is open, since a call failed.
     fn close(&mut self)
-        ensures closed { self.new ≡ record self.old { left = []; calls = record self.old.calls { faults = count_after self.old.calls.faults 1 } } }
+        ensures closed { self.new ≡ record self.old {
+          left = [];
+          calls = record self.old.calls { faults = count_after self.old.calls.faults 1 };
+        } }
         ensures never_falls { self.old.calls.faults ≤ self.new.calls.faults }
     {
         self.opened = None;
@@ -159,19 +181,26 @@ impl Source for MapShelf {
 
     fn read(&mut self, buf: &mut [u8]) -> Result<usize, Failed>
         requires { 0 < length buf.old }
-        ensures fails { IsErr result ↔ Contains self.old.calls.failing self.old.calls.calls }
-        ensures failed { OnErr result (self.new ≡ record self.old { calls = after_failed_call self.old.calls }) }
+        ensures fails { IsErr result ↔ Contains self.old.calls.failing self.old.calls.made }
+        ensures failed { OnErr result
+            (self.new ≡ record self.old { calls = after_failed_call self.old.calls }) }
         ensures failed_buffer { OnErr result (buf.new ≡ buf.old) }
         ensures count { IfOk result (λ n. n ≡ min (length buf.old) (length self.old.left)) }
         ensures bytes { IfOk result (λ n. buf.new ≡ take n self.old.left ++ drop n buf.old) }
-        ensures rest { IfOk result (λ n. self.new ≡ record self.old { left = drop n self.old.left; given = count_after self.old.given n; calls = after_call self.old.calls }) }
+        ensures rest { IfOk result (λ n. self.new ≡ record self.old {
+          left = drop n self.old.left;
+          given = count_after self.old.given n;
+          calls = after_call self.old.calls;
+        }) }
 
         ensures within { IfOk result (λ n. n ≤ length buf.new) }
-        ensures gives { IfOk result (λ n. Consumes (Some self.old.left) (Some self.new.left) (take n buf.new)) }
+        ensures gives { IfOk result
+            (λ n. Consumes (Some self.old.left) (Some self.new.left) (take n buf.new)) }
         ensures ends_where_none_left { IfOk result (λ n. (n ≡ 0) ↔ (self.old.left ≡ [])) }
         ensures end_leaves_none { IfOk result (λ n. n ≡ 0 → self.new.left ≡ []) }
         ensures counts { IfOk result (λ n. RoseBy self.old.given self.new.given n) }
-        ensures failed_is_counted { OnErr result (Rose self.old.calls.faults self.new.calls.faults) }
+        ensures failed_is_counted { OnErr result
+            (Rose self.old.calls.faults self.new.calls.faults) }
         ensures faults_never_fall { self.old.calls.faults ≤ self.new.calls.faults }
     {
         if self.calls.begin() {
@@ -188,14 +217,26 @@ impl Source for MapShelf {
 
 impl Shelf for MapShelf {
     fn open(&mut self, name: &str) -> Result<(), Failed>
-        ensures fails { IsErr result ↔ (Contains self.old.calls.failing self.old.calls.calls ⊎ (document self.old.documents name.now ≡ None)) }
-        ensures opened { OnOk result (self.new ≡ record self.old { left = unwrap_or (document self.old.documents name.now) []; calls = after_call self.old.calls }) }
-        ensures failed { OnErr result (self.new ≡ record self.old { left = []; absent_openings = absent_openings_after self.old.documents name.now self.old.absent_openings; calls = after_failed_call self.old.calls }) }
+        ensures fails { IsErr result
+            ↔ (Contains self.old.calls.failing self.old.calls.made
+            ⊎ (document self.old.documents name.now ≡ None)) }
+        ensures opened { OnOk result (self.new ≡ record self.old {
+          left = unwrap_or (document self.old.documents name.now) [];
+          calls = after_call self.old.calls;
+        }) }
+        ensures failed { OnErr result (self.new ≡ record self.old {
+          left = [];
+          absent_openings =
+              absent_openings_after self.old.documents name.now self.old.absent_openings;
+          calls = after_failed_call self.old.calls;
+        }) }
 
         ensures opens { OnOk result (Some self.new.left ≡ document self.old.documents name.now) }
         ensures absent_fails { document self.old.documents name.now ≡ None → IsErr result }
-        ensures failed_is_counted { OnErr result (Rose self.old.calls.faults self.new.calls.faults) }
-        ensures counts_opening { CountsOpening (Some self.old.documents) name.now self.old.absent_openings self.new.absent_openings }
+        ensures failed_is_counted { OnErr result
+            (Rose self.old.calls.faults self.new.calls.faults) }
+        ensures counts_opening { CountsOpening (Some self.old.documents) name.now
+            self.old.absent_openings self.new.absent_openings }
         ensures faults_never_fall { self.old.calls.faults ≤ self.new.calls.faults }
     {
         let is_listed = self.calls.begin();

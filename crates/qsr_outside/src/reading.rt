@@ -9,8 +9,8 @@ use std::alloc::Global;
 
 /// Where bytes come from.
 ///
-/// A source may tell the documents that it has by name and the bytes that it has left. Facts on either hold where it
-/// tells them.
+/// A source may tell the documents that it has by name and the bytes that it has left. Facts on
+/// either hold where it tells them.
 pub trait Source {
     // The named documents, where they are told. A source without names tells none.
     ghost documents: { Self → Option Documents };
@@ -35,8 +35,10 @@ pub trait Source {
     fn read(&mut self, buf: &mut [u8]) -> Result<usize, Failed>
         requires { 0 < length buf.old }
         ensures within { IfOk result (λ n. n ≤ length buf.new) }
-        ensures gives { IfOk result (λ n. Consumes (left self.old) (left self.new) (take n buf.new)) }
-        ensures ends_where_none_left { IfOk result (λ n. IfSome (left self.old) (λ bytes. (n ≡ 0) ↔ (bytes ≡ []))) }
+        ensures gives { IfOk result
+            (λ n. Consumes (left self.old) (left self.new) (take n buf.new)) }
+        ensures ends_where_none_left { IfOk result
+            (λ n. IfSome (left self.old) (λ bytes. (n ≡ 0) ↔ (bytes ≡ []))) }
         ensures end_leaves_none { IfOk result (λ n. n ≡ 0 → IsAtEnd (left self.new)) }
         ensures counts { IfOk result (λ n. RoseBy (given self.old) (given self.new) n) }
         ensures failed_gives_none { OnErr result (Keeps (left self.old) (left self.new)) }
@@ -60,20 +62,23 @@ pub enum ReadStop {
 
 const BUFFER_LEN: usize = 8192;
 
-/// Reads the source until the end of input, and answers the bytes that it gave, at most `limit` of them.
+/// Reads the source until the end of input, and answers the bytes that it gave, at most `limit` of
+/// them.
 ///
 /// # Errors
 ///
-/// `ReadFault` where a read failed, and `TooLong` as soon as more than `limit` bytes were given. The bytes given so
-/// far stay given.
+/// `ReadFault` where a read failed, and `TooLong` as soon as more than `limit` bytes were given. The
+/// bytes given so far stay given.
 pub fn read_all<S: Source>(alloc: Global, source: &mut S, limit: usize) -> Result<Vec<u8>, ReadStop>
     requires { limit < 2 ^ 31 }
     ensures gives_all { IfOk result (λ v. Consumes (S.left source.old) (S.left source.new) v.items) }
     ensures ends { OnOk result (IsAtEnd (S.left source.new)) }
     ensures whole { IfOk result (λ v. IfSome (S.left source.old) (λ bytes. v.items ≡ bytes)) }
     ensures within_limit { IfOk result (λ v. vec_len v ≤ limit) }
-    ensures ok_only_within { OnOk result (IfSome (S.left source.old) (λ bytes. length bytes ≤ limit)) }
-    ensures counts { IfOk result (λ v. RoseBy (S.given source.old) (S.given source.new) (vec_len v)) }
+    ensures ok_only_within { OnOk result
+        (IfSome (S.left source.old) (λ bytes. length bytes ≤ limit)) }
+    ensures counts { IfOk result
+        (λ v. RoseBy (S.given source.old) (S.given source.new) (vec_len v)) }
     ensures given_never_falls { S.given source.old ≤ S.given source.new }
 
     ensures read_fault_is_counted { result ≡ Err ReadStop.ReadFault
@@ -82,7 +87,8 @@ pub fn read_all<S: Source>(alloc: Global, source: &mut S, limit: usize) -> Resul
         → RoseAbove (S.given source.old) (S.given source.new) limit }
     ensures too_long_only_where_left { result ≡ Err ReadStop.TooLong
         → IfSome (S.left source.old) (λ bytes. limit < length bytes) }
-    ensures too_long_above { S.given source.old + limit < S.given source.new → IsTooLongOrMemory result }
+    ensures too_long_above { S.given source.old + limit < S.given source.new
+        → IsTooLongOrMemory result }
     ensures too_long_where_left { IsSomeAnd (S.left source.old) (λ bytes. limit < length bytes)
         → ¬ Rose (S.faults source.old) (S.faults source.new) → IsTooLongOrMemory result }
     ensures completes { IsSomeAnd (S.left source.old) (λ bytes. length bytes ≤ limit)

@@ -12,14 +12,18 @@ pub trait Shelf: Source {
     ///
     /// # Errors
     ///
-    /// `Failed` where the shelf's count of faults rose, as it does for a name that no document has. Then no document
-    /// is open and nothing is left.
+    /// `Failed` where the shelf's count of faults rose, as it does for a name that no document has.
+    /// Then no document is open and nothing is left.
     fn open(&mut self, name: &str) -> Result<(), Failed>
-        ensures opens { OnOk result (IfSome (Self.documents self.old) (λ documents. Self.left self.new ≡ document documents name.now)) }
-        ensures absent_fails { IfSome (Self.documents self.old) (λ documents. document documents name.now ≡ None → IsErr result) }
+        ensures opens { OnOk result (IfSome (Self.documents self.old)
+            (λ documents. Self.left self.new ≡ document documents name.now)) }
+        ensures absent_fails { IfSome (Self.documents self.old)
+            (λ documents. document documents name.now ≡ None → IsErr result) }
         ensures failed_leaves_none { OnErr result (IsAtEnd (Self.left self.new)) }
-        ensures failed_is_counted { OnErr result (Rose (Self.faults self.old) (Self.faults self.new)) }
-        ensures counts_opening { CountsOpening (Self.documents self.old) name.now (Self.absent_openings self.old) (Self.absent_openings self.new) }
+        ensures failed_is_counted { OnErr result
+            (Rose (Self.faults self.old) (Self.faults self.new)) }
+        ensures counts_opening { CountsOpening (Self.documents self.old) name.now
+            (Self.absent_openings self.old) (Self.absent_openings self.new) }
         ensures faults_never_fall { Self.faults self.old ≤ Self.faults self.new }
         ensures given_stays { Self.given self.new ≡ Self.given self.old }
         ensures documents_stay { Self.documents self.new ≡ Self.documents self.old };

@@ -24,7 +24,8 @@ pub trait Sink {
         ensures within { IfOk result (λ n. n ≤ length piece.now) }
         ensures takes_some { IfOk result (λ n. 0 < length piece.now → 0 < n) }
         ensures takes { WriteAppends (held self.old) (held self.new) result piece.now }
-        ensures failed_is_counted { OnErr result (Rose (faults self.old) (faults self.new)) }
+        ensures failed_is_counted { OnErr result
+            (Rose (faults self.old) (faults self.new)) }
         ensures faults_never_fall { faults self.old ≤ faults self.new };
 }
 
@@ -42,7 +43,8 @@ pub enum WriteStop {
 /// `WriteFault` where a write failed. What was written until then stays written.
 pub fn write_all<W: Sink>(sink: &mut W, bytes: &[u8]) -> Result<(), WriteStop>
     ensures writes_all { OnOk result (Appends (W.held sink.old) (W.held sink.new) bytes.now) }
-    ensures fault_writes_part { OnErr result (AppendsPart (W.held sink.old) (W.held sink.new) bytes.now) }
+    ensures fault_writes_part { OnErr result
+        (AppendsPart (W.held sink.old) (W.held sink.new) bytes.now) }
     ensures fault_is_counted { OnErr result (Rose (W.faults sink.old) (W.faults sink.new)) }
     ensures faults_never_fall { W.faults sink.old ≤ W.faults sink.new }
 {
