@@ -1,8 +1,7 @@
 -- The members of compositions and converses, and the laws of sets of base relations.
-use Rattle.std.proofs.Common.{◌≡◌, ℕ, zero, suc, ◌+◌, ◌^◌, ◌<◌, cond, true, false, Bool, refl, sym, ◌∙◌, ap, subst, arith, inl, inr, add-one, ne_eqb}
+use Rattle.std.proofs.Common.{◌≡◌, ℕ, zero, suc, ◌^◌, ◌<◌, cond, true, false, Bool, refl, sym, ◌∙◌, ap, subst, arith, inl, inr}
 use Rattle.std.specs.Prelude.{bit_or, ◌==◌, ◌↔◌}
 use Rattle.std.specs.Int.{bit_at}
-use lib.Bits.{or_zero_r}
 use Rattle.std.proofs.lemmas.Bool.{eqb-true, eq-eqb, cases_eq, cases_lt}
 use Rattle.std.proofs.lemmas.Nat.Bits.{bit_at-pow_other, bit_at_ones, bit_at_ones_above}
 use Rattle.calculus_table.specs.Rel.{Has, IsWithin}
@@ -258,20 +257,6 @@ converse-composition m a b k = IsWithin-antisym _ _
             });
           });
     })
-
--- ---- a union over the members of a set, one base relation after another
-
-pub union_below-none : (f : ℕ → ℕ) → 0 ≡ union_below 0 f
-unfolding union_below
-union_below-none f = refl
-
-pub union_below-has : (a n all : ℕ) (f : ℕ → ℕ) → all ≡ union_below n (λ r. if_has a r (f r)) → Has a n → bit_or all (f n) ≡ union_below (n + 1) (λ r. if_has a r (f r))
-unfolding union_below
-union_below-has a n all f e h = rw (add-one, e, eq-eqb (bit_at a n) 1 h) refl
-
-pub union_below-has_not : (a n all : ℕ) (f : ℕ → ℕ) → all ≡ union_below n (λ r. if_has a r (f r)) → ¬ Has a n → all ≡ union_below (n + 1) (λ r. if_has a r (f r))
-unfolding union_below
-union_below-has_not a n all f e h = rw (add-one, e, ne_eqb (bit_at a n) 1 h) (sym (or_zero_r _))
 
 -- ---- the identity
 

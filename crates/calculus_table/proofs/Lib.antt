@@ -3,3 +3,5 @@ pub mod Compositions
 pub mod Names
 pub mod Faults
 pub mod Computed
+pub mod Unions
+pub mod Without

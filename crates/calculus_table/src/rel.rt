@@ -19,8 +19,8 @@ impl Model for Rel {
 }
 
 impl Rel {
-    ghost use Rattle.std.specs.Prelude.{◌≡◌, ℕ, ◌^◌, ◌<◌, ◌↔◌, IsTrue, bit_and, bit_or, count_ones};
-    ghost use Rattle.calculus_table.specs.Rel.{Has, IsWithin};
+    ghost use Rattle.std.specs.Prelude.{◌≡◌, ◌≢◌, ℕ, ◌^◌, ◌<◌, ◌↔◌, IsTrue, bit_and, bit_or, count_ones};
+    ghost use Rattle.calculus_table.specs.Rel.{Has, IsWithin, IsWithout};
 
     /// The empty set.
     pub const EMPTY: Rel = Rel { word: 0 };
@@ -91,5 +91,25 @@ impl Rel {
         ensures { IsTrue result ↔ (self ≡ 0) }
     {
         self.word == 0
+    }
+
+    /// The least member.
+    pub(crate) fn least(self) -> u32
+        requires { self ≢ 0 }
+        ensures member { Has self result }
+        ensures below { result < 64 }
+    {
+        self.word.trailing_zeros()
+    }
+
+    /// The members but `r`, which is one.
+    pub(crate) fn without(self, r: u32) -> Rel
+        requires member { Has self r }
+        requires below { r < 64 }
+        ensures { IsWithout self r result }
+    {
+        Rel {
+            word: self.word ^ (1 << r),
+        }
     }
 }

@@ -75,6 +75,7 @@ impl Table {
         requires { r < self.now.size }
         ensures value { result ≡ converse_at self.now r }
         ensures below { result < self.now.size }
+        ensures table { IsTable self.now }
     {
         self.converses[r as usize]
     }
@@ -94,10 +95,11 @@ impl Table {
         ensures { result ≡ converse self.now a }
     {
         let mut all = Rel::EMPTY;
-        for r in 0..self.size {
-            if a.has(r) {
-                all = all.union(Rel::single(self.converse_at(r)));
-            }
+        let mut left = a.meet(self.full());
+        while !left.is_empty() {
+            let r = left.least();
+            all = all.union(Rel::single(self.converse_at(r)));
+            left = left.without(r);
         }
         all
     }
@@ -108,10 +110,11 @@ impl Table {
         ensures { result ≡ row_composition self.now r b }
     {
         let mut all = Rel::EMPTY;
-        for s in 0..self.size {
-            if b.has(s) {
-                all = all.union(self.entry_at(r, s));
-            }
+        let mut left = b.meet(self.full());
+        while !left.is_empty() {
+            let s = left.least();
+            all = all.union(self.entry_at(r, s));
+            left = left.without(s);
         }
         all
     }
@@ -121,10 +124,11 @@ impl Table {
         ensures { result ≡ composition self.now a b }
     {
         let mut all = Rel::EMPTY;
-        for r in 0..self.size {
-            if a.has(r) {
-                all = all.union(self.compose_base(r, b));
-            }
+        let mut left = a.meet(self.full());
+        while !left.is_empty() {
+            let r = left.least();
+            all = all.union(self.compose_base(r, b));
+            left = left.without(r);
         }
         all
     }

@@ -55,7 +55,11 @@ fn three_names(alloc: Global, names: [&str; 3]) -> Result<Vec<String>, TableFaul
     ensures { IfOk result (λ owned. length owned.items ≡ 3) }
 {
     let [first, second, third] = names;
-    let owned = [owned(alloc, first)?, owned(alloc, second)?, owned(alloc, third)?];
+    let owned = [
+        owned(alloc, first)?,
+        owned(alloc, second)?,
+        owned(alloc, third)?,
+    ];
     Vec::from_array(alloc, owned).map_err(|_| TableFault::Memory)
 }
 
@@ -119,13 +123,36 @@ fn the_first_fault_is_named(rt: HostRuntime) {
     let alloc = rt.alloc();
     let twice = three_relations(alloc, ["id", "a", "id"], [0, 2, 2], RAMSEY);
     assert_eq!(rt; twice.err(), Some(TableFault::NameTwice { at: 2 }));
-    let turned = three_relations(alloc, ["id", "a", "b"], [0, 2, 2], [1, 2, 6, 2, 5, 6, 4, 6, 3]);
+    let turned = three_relations(
+        alloc,
+        ["id", "a", "b"],
+        [0, 2, 2],
+        [1, 2, 6, 2, 5, 6, 4, 6, 3],
+    );
     assert_eq!(rt; turned.err(), Some(TableFault::NotInvolution { r: 1 }));
-    let moved = three_relations(alloc, ["id", "a", "b"], [0, 1, 2], [1, 2, 6, 2, 5, 2, 4, 6, 3]);
+    let moved = three_relations(
+        alloc,
+        ["id", "a", "b"],
+        [0, 1, 2],
+        [1, 2, 6, 2, 5, 2, 4, 6, 3],
+    );
     assert_eq!(rt; moved.err(), Some(TableFault::IdentityLaw { r: 2 }));
-    let lopsided = three_relations(alloc, ["id", "a", "b"], [0, 1, 2], [1, 2, 4, 2, 5, 2, 4, 6, 1]);
-    assert_eq!(rt; lopsided.err(), Some(TableFault::ConverseLaw { r: 1, s: 2, t: 2 }));
-    let torn = three_relations(alloc, ["id", "a", "b"], [0, 1, 2], [1, 2, 4, 2, 5, 6, 4, 6, 1]);
+    let lopsided = three_relations(
+        alloc,
+        ["id", "a", "b"],
+        [0, 1, 2],
+        [1, 2, 4, 2, 5, 2, 4, 6, 1],
+    );
+    assert_eq!(rt;
+        lopsided.err(),
+        Some(TableFault::ConverseLaw { r: 1, s: 2, t: 2 })
+    );
+    let torn = three_relations(
+        alloc,
+        ["id", "a", "b"],
+        [0, 1, 2],
+        [1, 2, 4, 2, 5, 6, 4, 6, 1],
+    );
     assert_eq!(rt; torn.err(), Some(TableFault::CycleLaw { r: 1, s: 2, t: 2 }));
 }
 

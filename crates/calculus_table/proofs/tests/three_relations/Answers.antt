@@ -1,6 +1,4 @@
-use Rattle.std.proofs.Common.{subst, sym, arith}
 use Rattle.calculus_table.specs.Meaning.{Meaning}
-use Rattle.calculus_table.specs.Calculus.{IsTable}
 use Rattle.calculus_table.proofs.Computed.{IsTable-from_test}
 use Rattle.calculus_table.proofs.tests.three_relations.Goals as goal
 

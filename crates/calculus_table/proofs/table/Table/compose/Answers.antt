@@ -1,13 +1,17 @@
 use Rattle.calculus_table.specs.Composition.{row_composition}
-use Rattle.calculus_table.proofs.Compositions.{union_below-none, union_below-has, union_below-has_not}
+use Rattle.calculus_table.proofs.Unions.{IsUnionBut-start, IsUnionBut-step, IsUnionBut-end}
 use Rattle.calculus_table.proofs.table.Table.compose.Goals as goal
-use Rattle.calculus_table.proofs.table.Table.compose.Goals.{then-has, else-has}
 
-pub loop-r-init : goal.loop-r-init
-loop-r-init c = union_below-none _
+pub loop-b-init : goal.loop-b-init
+loop-b-init c =
+    rw (c.meet-left.ensures, c.full.ensures)
+    (IsUnionBut-start c.args.self.now (λ r. row_composition c.args.self.now r c.args.b) c.args.a)
 
-pub loop-r-preserved : goal.loop-r-preserved
-loop-r-preserved c = elim c.if-has.branch [
-  | then-has w ↦ (let h = union_below-has c.args.a c.loop-r.r c.loop-r.all (λ r. row_composition c.args.self.now r c.args.b) c.loop-r.invariant (c.has.ensures.0 w.if-has.true) in cc)
-  | else-has w ↦ (let h = union_below-has_not c.args.a c.loop-r.r c.loop-r.all (λ r. row_composition c.args.self.now r c.args.b) c.loop-r.invariant (λ p. let e = c.has.ensures.1 p in cc) in cc)
-]
+pub loop-b-preserved : goal.loop-b-preserved
+loop-b-preserved c =
+    rw (c.union-all.ensures, c.compose_base.ensures)
+    (IsUnionBut-step _ (λ r. row_composition c.args.self.now r c.args.b) c.args.a c.loop-b.left c.loop-b.all c.least-r.result c.without-left.result c.loop-b.invariant c.without-left.ensures)
+
+pub returns : goal.returns
+returns c =
+    IsUnionBut-end _ (λ r. row_composition c.args.self.now r c.args.b) c.args.a c.loop-b.left c.loop-b.all (c.is_empty.ensures.0 c.loop-b-test.false) c.loop-b.invariant

@@ -1,6 +1,9 @@
-use Rattle.std.proofs.Common.{◌≡◌}
-use Rattle.calculus_table.specs.Composition.{union_below, if_has, row_composition}
+use Rattle.calculus_table.specs.Composition.{row_composition}
+use Rattle.calculus_table.proofs.Unions.{IsUnionBut}
 use Rattle.calculus_table.proofs.table.Table.compose.Given as goal
 
-abbrev pub invariant-loop-r : goal.invariant-loop-r
-invariant-loop-r l = l.all ≡ union_below l.r (λ r. if_has l.a r (row_composition l.self r l.b))
+abbrev pub invariant-loop-b : goal.invariant-loop-b
+invariant-loop-b l = IsUnionBut l.self.size (λ r. row_composition l.self r l.b) l.fn.a l.left l.all
+
+abbrev pub decreases-loop-b : goal.decreases-loop-b
+decreases-loop-b l = l.left

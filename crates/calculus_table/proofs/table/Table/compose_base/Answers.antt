@@ -1,13 +1,17 @@
 use Rattle.calculus_table.specs.Meaning.{entry_at}
-use Rattle.calculus_table.proofs.Compositions.{union_below-none, union_below-has, union_below-has_not}
+use Rattle.calculus_table.proofs.Unions.{IsUnionBut-start, IsUnionBut-step, IsUnionBut-end}
 use Rattle.calculus_table.proofs.table.Table.compose_base.Goals as goal
-use Rattle.calculus_table.proofs.table.Table.compose_base.Goals.{then-has, else-has}
 
-pub loop-s-init : goal.loop-s-init
-loop-s-init c = union_below-none _
+pub loop-left-init : goal.loop-left-init
+loop-left-init c =
+    rw (c.meet-left.ensures, c.full.ensures)
+    (IsUnionBut-start c.args.self.now (λ s. entry_at c.args.self.now c.args.r s) c.args.b)
 
-pub loop-s-preserved : goal.loop-s-preserved
-loop-s-preserved c = elim c.if-has.branch [
-  | then-has w ↦ (let h = union_below-has c.args.b c.loop-s.s c.loop-s.all (λ s. entry_at c.args.self.now c.args.r s) c.loop-s.invariant (c.has.ensures.0 w.if-has.true) in cc)
-  | else-has w ↦ (let h = union_below-has_not c.args.b c.loop-s.s c.loop-s.all (λ s. entry_at c.args.self.now c.args.r s) c.loop-s.invariant (λ p. let e = c.has.ensures.1 p in cc) in cc)
-]
+pub loop-left-preserved : goal.loop-left-preserved
+loop-left-preserved c =
+    rw (c.union-all.ensures, c.entry_at.ensures.value)
+    (IsUnionBut-step _ (λ s. entry_at c.args.self.now c.args.r s) c.args.b c.loop-left.left c.loop-left.all c.least-s.result c.without-left.result c.loop-left.invariant c.without-left.ensures)
+
+pub returns : goal.returns
+returns c =
+    IsUnionBut-end _ (λ s. entry_at c.args.self.now c.args.r s) c.args.b c.loop-left.left c.loop-left.all (c.is_empty.ensures.0 c.loop-left-test.false) c.loop-left.invariant

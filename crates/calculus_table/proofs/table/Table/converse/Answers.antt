@@ -1,14 +1,21 @@
-use Rattle.std.proofs.Common.{◌^◌}
+use Rattle.std.proofs.Common.{◌^◌, arith}
 use Rattle.calculus_table.specs.Meaning.{converse_at}
-use Rattle.calculus_table.proofs.Compositions.{union_below-none, union_below-has, union_below-has_not}
+use Rattle.calculus_table.proofs.Unions.{IsUnionBut-start, IsUnionBut-step, IsUnionBut-end}
 use Rattle.calculus_table.proofs.table.Table.converse.Goals as goal
-use Rattle.calculus_table.proofs.table.Table.converse.Goals.{then-has, else-has}
 
-pub loop-r-init : goal.loop-r-init
-loop-r-init c = union_below-none _
+pub loop-left-init : goal.loop-left-init
+loop-left-init c =
+    rw (c.meet-left.ensures, c.full.ensures)
+    (IsUnionBut-start c.args.self.now (λ r. 2 ^ converse_at c.args.self.now r) c.args.a)
 
-pub loop-r-preserved : goal.loop-r-preserved
-loop-r-preserved c = elim c.if-has.branch [
-  | then-has w ↦ (let h = union_below-has c.args.a c.loop-r.r c.loop-r.all (λ r. 2 ^ converse_at c.args.self.now r) c.loop-r.invariant (c.has.ensures.0 w.if-has.true) in cc)
-  | else-has w ↦ (let h = union_below-has_not c.args.a c.loop-r.r c.loop-r.all (λ r. 2 ^ converse_at c.args.self.now r) c.loop-r.invariant (λ p. let e = c.has.ensures.1 p in cc) in cc)
-]
+pub single-requires : goal.single-requires
+single-requires c = omega (arith, c.converse_at.ensures.table.bounded)
+
+pub loop-left-preserved : goal.loop-left-preserved
+loop-left-preserved c =
+    rw (c.union-all.ensures, c.single.ensures, c.converse_at.ensures.value)
+    (IsUnionBut-step _ (λ r. 2 ^ converse_at c.args.self.now r) c.args.a c.loop-left.left c.loop-left.all c.least-r.result c.without-left.result c.loop-left.invariant c.without-left.ensures)
+
+pub returns : goal.returns
+returns c =
+    IsUnionBut-end _ (λ r. 2 ^ converse_at c.args.self.now r) c.args.a c.loop-left.left c.loop-left.all (c.is_empty.ensures.0 c.loop-left-test.false) c.loop-left.invariant

@@ -1,7 +1,10 @@
-use Rattle.std.proofs.Common.{◌≡◌, ◌^◌}
+use Rattle.std.proofs.Common.{◌^◌}
 use Rattle.calculus_table.specs.Meaning.{converse_at}
-use Rattle.calculus_table.specs.Composition.{union_below, if_has}
+use Rattle.calculus_table.proofs.Unions.{IsUnionBut}
 use Rattle.calculus_table.proofs.table.Table.converse.Given as goal
 
-abbrev pub invariant-loop-r : goal.invariant-loop-r
-invariant-loop-r l = l.all ≡ union_below l.r (λ r. if_has l.a r (2 ^ converse_at l.self r))
+abbrev pub invariant-loop-left : goal.invariant-loop-left
+invariant-loop-left l = IsUnionBut l.self.size (λ r. 2 ^ converse_at l.self r) l.fn.a l.left l.all
+
+abbrev pub decreases-loop-left : goal.decreases-loop-left
+decreases-loop-left l = l.left
