@@ -1,1 +1,5 @@
 pub mod Rcc8Laws
+pub mod PointLaws
+pub mod AllenLaws
+pub mod Unions
+pub mod AllenRule

@@ -2,6 +2,13 @@
 #![tactic(auto)]
 
 mod constant;
+mod intervals;
+mod points;
 mod regions;
 
+pub use intervals::allen;
+pub use points::point;
 pub use regions::rcc8;
+
+#[cfg(test)]
+mod tests;
