@@ -1,8 +1,8 @@
 -- How the lines of a text and the tokens of a line come off its front.
-use Rattle.std.proofs.Common.{◌≡◌, ℕ, zero, suc, ◌+◌, ◌-◌, ◌<◌, ◌≤◌, Bool, true, false, cond, List, [], ◌∷◌, ◌++◌, length, take, drop, get_or, Some, refl, sym, ◌∙◌, ap, arith, append_assoc}
+use Rattle.std.proofs.Common.{◌≡◌, ℕ, zero, suc, ◌+◌, ◌-◌, ◌<◌, ◌≤◌, Bool, true, false, cond, List, [], ◌∷◌, ◌++◌, length, take, drop, get_or, Some, None, refl, sym, ◌∙◌, ap, arith, append_assoc}
 use Rattle.std.proofs.lemmas.List.{drop_more, append-nil}
 use Rattle.qsr_lex.specs.Bytes.{is_lf}
-use Rattle.qsr_lex.specs.TextLines.{add_byte, text_lines, first_line_len, starts_with_end, outside, is_clean, bad_line_from}
+use Rattle.qsr_lex.specs.TextLines.{add_byte, text_lines, first_line_len, starts_with_end, outside, is_clean, clean_front, bad_line_from}
 use Rattle.qsr_lex.specs.Lexemes.{tail_len, kind_of}
 use Rattle.qsr_lex.specs.Tokens.{token_here, tokens_behind, tokens_of_lines}
 use Rattle.qsr_lex.specs.declared.tokens.Token.{Token}
@@ -85,14 +85,30 @@ length_outside-drop xs i within open_part =
     let e = drop_more xs i 0 within in
     ap (λ ys. length (outside ys)) e ∙ length_outside-front (get_or xs i 0) (drop (i + 1) xs) (ap starts_with_end (sym e) ∙ open_part)
 
+-- the next line is clean, so the clean lines are that one and those behind it
+clean_front-step : (rest line after : List ℕ) → 0 < length rest
+    → line ≡ take (first_line_len rest) rest → after ≡ drop (first_line_len rest) rest
+    → is_clean line ≡ true → clean_front (text_lines rest) ≡ line ∷ clean_front (text_lines after)
+clean_front-step rest line after some is_line is_after clean =
+    ap clean_front (text_lines-front rest some ∙ ap (λ l. l ∷ text_lines (drop (first_line_len rest) rest)) (sym is_line) ∙ ap (λ bs. line ∷ text_lines bs) (sym is_after))
+    ∙ ap (λ c. cond c (line ∷ clean_front (text_lines after)) []) clean
+
+-- the next line is bad, so no clean ones follow
+pub clean_front-none : (rest line : List ℕ) → 0 < length rest
+    → line ≡ take (first_line_len rest) rest → is_clean line ≡ false → clean_front (text_lines rest) ≡ []
+clean_front-none rest line some is_line bad =
+    let behind = text_lines (drop (first_line_len rest) rest) in
+    ap clean_front (text_lines-front rest some ∙ ap (λ l. l ∷ behind) (sym is_line)) ∙ ap (λ c. cond c (line ∷ clean_front behind) []) bad
+
 -- the tokens so far, those of the next line, and those of the lines behind it
 pub tokens-step : (sofar now all : List Token) (n at next : ℕ) (rest line part after : List ℕ)
-    → sofar ++ tokens_of_lines n at (text_lines rest) ≡ all → 0 < length rest
-    → line ≡ take (first_line_len rest) rest → after ≡ drop (first_line_len rest) rest → part ≡ outside line → next ≡ at + length line
-    → now ≡ sofar ++ tokens_behind n at 0 part → now ++ tokens_of_lines (n + 1) next (text_lines after) ≡ all
-tokens-step sofar now all n at next rest line part after told some is_line is_after is_part is_next pushed =
-    let front = ap (tokens_of_lines n at) (text_lines-front rest some) in
-    let regrouped = append_assoc sofar (tokens_behind n at 0 part) (tokens_of_lines (n + 1) next (text_lines after)) in
+    → sofar ++ tokens_of_lines n at (clean_front (text_lines rest)) ≡ all → 0 < length rest
+    → line ≡ take (first_line_len rest) rest → after ≡ drop (first_line_len rest) rest → is_clean line ≡ true
+    → part ≡ outside line → next ≡ at + length line
+    → now ≡ sofar ++ tokens_behind n at 0 part → now ++ tokens_of_lines (n + 1) next (clean_front (text_lines after)) ≡ all
+tokens-step sofar now all n at next rest line part after told some is_line is_after clean is_part is_next pushed =
+    let front = ap (tokens_of_lines n at) (clean_front-step rest line after some is_line is_after clean) in
+    let regrouped = append_assoc sofar (tokens_behind n at 0 part) (tokens_of_lines (n + 1) next (clean_front (text_lines after))) in
     cc (front, regrouped)
 
 -- the next line is clean, so a bad one comes behind it
@@ -112,10 +128,12 @@ bad-here n rest line some is_line bad =
     ∙ ap (λ c. cond c (bad_line_from (n + 1) (text_lines (drop (first_line_len rest) rest))) (Some n)) (ap is_clean (sym is_line) ∙ bad)
 
 -- one line more
-pub count-step : (rest after : List ℕ) → 0 < length rest → after ≡ drop (first_line_len rest) rest → length (text_lines rest) ≡ 1 + length (text_lines after)
-count-step rest after some is_after =
-    let further : suc (length (text_lines (drop (first_line_len rest) rest))) ≡ 1 + length (text_lines (drop (first_line_len rest) rest)) = omega arith in
-    ap length (text_lines-front rest some) ∙ further ∙ ap (λ bs. 1 + length (text_lines bs)) (sym is_after)
+pub count-step : (rest line after : List ℕ) → 0 < length rest
+    → line ≡ take (first_line_len rest) rest → after ≡ drop (first_line_len rest) rest → is_clean line ≡ true
+    → length (clean_front (text_lines rest)) ≡ 1 + length (clean_front (text_lines after))
+count-step rest line after some is_line is_after clean =
+    let further : suc (length (clean_front (text_lines after))) ≡ 1 + length (clean_front (text_lines after)) = omega arith in
+    ap length (clean_front-step rest line after some is_line is_after clean) ∙ further
 
 -- the tokens so far, the one at the front, and those behind it
 pub line_tokens-step : (sofar now all : List Token) (n at taken : ℕ) (rest after : List ℕ)
@@ -128,10 +146,16 @@ line_tokens-step sofar now all n at taken rest after told some is_taken is_after
     cc (front, regrouped)
 
 -- nothing is left
-pub tokens-all : (sofar all : List Token) (n at : ℕ) (rest : List ℕ) → length rest ≡ 0 → sofar ++ tokens_of_lines n at (text_lines rest) ≡ all → sofar ≡ all
-tokens-all sofar all n at [] h told = sym (append-nil sofar) ∙ told
-tokens-all sofar all n at (b ∷ bs) h told = absurd (omega arith)
+pub tokens-all : (sofar all : List Token) (n at : ℕ) (ls : List (List ℕ)) → ls ≡ [] → sofar ++ tokens_of_lines n at ls ≡ all → sofar ≡ all
+tokens-all sofar all n at ls none told = sym (append-nil sofar) ∙ ap (λ ks. sofar ++ tokens_of_lines n at ks) (sym none) ∙ told
 
-pub count-all : (count all : ℕ) (rest : List ℕ) → length rest ≡ 0 → count + length (text_lines rest) ≡ all → count ≡ all
-count-all count all [] h told = omega arith
-count-all count all (b ∷ bs) h told = absurd (omega arith)
+pub count-all : (count all : ℕ) (ls : List (List ℕ)) → ls ≡ [] → count + length ls ≡ all → count ≡ all
+count-all count all ls none told = let e = ap length none in omega (arith, e)
+
+pub clean_front-end : (rest : List ℕ) → length rest ≡ 0 → clean_front (text_lines rest) ≡ []
+clean_front-end [] h = refl
+clean_front-end (b ∷ bs) h = absurd (omega arith)
+
+pub bad-end : (n : ℕ) (rest : List ℕ) → length rest ≡ 0 → None ≡ bad_line_from n (text_lines rest)
+bad-end n [] h = refl
+bad-end n (b ∷ bs) h = absurd (omega arith)

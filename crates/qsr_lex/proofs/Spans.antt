@@ -29,10 +29,15 @@ pub AreApart-earlier : (from from' to : ℕ) (ts : List Token) → from ≤ from
 AreApart-earlier from from' to [] h a = tt
 AreApart-earlier from from' to (t ∷ ts) h a = (omega arith, a.1, a.2, a.3)
 
--- what stands apart up to an offset stands apart up to a later one
+-- what stands apart up to an offset, and what stands apart behind it
 pub AreApart-append : (from mid to : ℕ) (ts us : List Token) → from ≤ mid → mid ≤ to → AreApart from ts mid → AreApart mid us to → AreApart from (ts ++ us) to
 AreApart-append from mid to [] us h k a b = AreApart-earlier from mid to us h b
 AreApart-append from mid to (t ∷ ts) us h k a b = (a.0, a.1, omega (arith, a.2), AreApart-append t.end mid to ts us a.2 k a.3 b)
+
+-- what stands apart up to an offset stands apart up to a later one
+pub AreApart-later : (from mid to : ℕ) (ts : List Token) → mid ≤ to → AreApart from ts mid → AreApart from ts to
+AreApart-later from mid to [] k a = tt
+AreApart-later from mid to (t ∷ ts) k a = (a.0, a.1, omega (arith, a.2), AreApart-later t.end mid to ts k a.3)
 
 AreApart-here : (c : Bool) (from at to k : ℕ) (t : Token) (us : List Token) → t.start ≡ at → t.end ≡ at + (1 + k) → from ≤ at → at + (1 + k) ≤ to
     → AreApart (at + (1 + k)) us to → AreApart from (cond c [] (t ∷ []) ++ us) to
@@ -47,7 +52,7 @@ AreApart-part n from at zero to (b ∷ bs) h within is_end =
     let t = tail_len (b ∷ bs) in
     let short = tail_len-le b bs in
     AreApart-here (is_blank b) from at to t (record { line = n; start = at; end = at + (1 + t); kind = kind_of (b ∷ bs) }) (tokens_behind n (at + 1) t bs)
-      refl refl (omega arith) (omega arith) (AreApart-part n (at + (1 + t)) (at + 1) t to bs (omega arith) short (omega arith))
+    refl refl (omega arith) (omega arith) (AreApart-part n (at + (1 + t)) (at + 1) t to bs (omega arith) short (omega arith))
 
 -- the tokens of lines stand apart
 pub AreApart-lines : (n at to : ℕ) (ls : List (List ℕ)) → at + length (flat_map (λ l. l) ls) ≡ to → AreApart at (tokens_of_lines n at ls) to
@@ -56,9 +61,9 @@ AreApart-lines n at to (l ∷ ls) h =
     let whole = length-append l (flat_map (λ k. k) ls) in
     let inside = length-outside-le l in
     AreApart-append at (at + length (outside l)) to (tokens_behind n at 0 (outside l)) (tokens_of_lines (n + 1) (at + length l) ls)
-      (omega arith) (omega arith) (AreApart-part n at at 0 (at + length (outside l)) (outside l) (omega arith) (omega arith) refl)
-      (AreApart-earlier (at + length (outside l)) (at + length l) to (tokens_of_lines (n + 1) (at + length l) ls) (omega arith)
-        (AreApart-lines (n + 1) (at + length l) to ls (omega arith)))
+    (omega arith) (omega arith) (AreApart-part n at at 0 (at + length (outside l)) (outside l) (omega arith) (omega arith) refl)
+    (AreApart-earlier (at + length (outside l)) (at + length l) to (tokens_of_lines (n + 1) (at + length l) ls) (omega arith)
+    (AreApart-lines (n + 1) (at + length l) to ls (omega arith)))
 
 -- the lines, one after the other, are the text
 concat_add_byte : (b : ℕ) (ls : List (List ℕ)) → flat_map (λ l. l) (add_byte b ls) ≡ b ∷ flat_map (λ l. l) ls

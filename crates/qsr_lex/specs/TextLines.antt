@@ -1,6 +1,6 @@
 -- The lines of a text, and what of each stands outside comments.
 use Rattle.std.specs.Prelude.{ℕ, ◌+◌, List, [], ◌∷◌, Bool, true, false, not, count_by, ◌&&◌, ◌||◌, ◌==◌, Option, Some, None, if◌then◌else◌}
-use Rattle.std.specs.List.{list_all}
+use Rattle.std.specs.List.{list_all, flat_map}
 use Rattle.qsr_lex.specs.Bytes.{is_lf, is_hash, is_allowed}
 
 -- one byte more in front of the lines: an LF is a line of its own, any other byte belongs to the line behind it
@@ -55,3 +55,12 @@ bad_line_from n (l ∷ ls) = if is_clean l then bad_line_from (n + 1) ls else So
 -- the number of the first line, from 1, with a byte outside comments that isn't allowed there
 abbrev pub bad_line : List ℕ → Option ℕ
 bad_line bytes = bad_line_from 1 (text_lines bytes)
+
+-- the lines before the first one with a byte that isn't allowed
+abbrev pub clean_front : List (List ℕ) → List (List ℕ)
+clean_front [] = []
+clean_front (l ∷ ls) = if is_clean l then l ∷ clean_front ls else []
+
+-- the bytes that stand before the first line with a byte that isn't allowed: the whole text where there is none
+abbrev pub readable_text : List ℕ → List ℕ
+readable_text bytes = flat_map (λ l. l) (clean_front (text_lines bytes))

@@ -1,5 +1,5 @@
 -- The lines of a text that have tokens, as a reader goes over them.
-use Rattle.std.specs.Prelude.{ℕ, ◌+◌, ◌==◌, List, [], ◌∷◌, slice_range, if◌then◌else◌}
+use Rattle.std.specs.Prelude.{ℕ, ◌+◌, ◌==◌, List, [], ◌∷◌, slice_range, map, ◌≤◌, if◌then◌else◌}
 use Rattle.qsr_lex.specs.TextLines.{text_lines, outside}
 use Rattle.qsr_lex.specs.Lexemes.{Lexeme, lexemes}
 use Rattle.qsr_lex.specs.declared.tokens.Token.{Token}
@@ -38,3 +38,16 @@ add_word n x (l ∷ ls) =
 abbrev pub by_line : List ℕ → List Token → List TokenLine
 by_line bytes [] = []
 by_line bytes (t ∷ ts) = add_word t.line (lexeme_of bytes t) (by_line bytes ts)
+
+-- a line with this number and these tokens
+abbrev pub token_line : ℕ → List Lexeme → TokenLine
+token_line n words = record { number = n; words = words }
+
+-- tokens of a text without their places
+abbrev pub words_of : List ℕ → List Token → List Lexeme
+words_of bytes ts = map (lexeme_of bytes) ts
+
+-- the tokens lie within the first n bytes
+abbrev pub AreWithin : ℕ → List Token → Type 0
+AreWithin n [] = Unit {0}
+AreWithin n (t ∷ ts) = (t.start ≤ t.end) × (t.end ≤ n) × AreWithin n ts

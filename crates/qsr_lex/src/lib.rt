@@ -4,10 +4,19 @@
 mod bytes;
 mod names;
 mod numbers;
+mod printing;
+mod reading;
 mod scan;
+#[cfg(test)]
+mod tests;
 mod tokens;
 
 pub use names::is_name;
 pub use numbers::{number, signed};
-pub use scan::lines;
-pub use tokens::{LexStop, Lines, Token, TokenKind};
+pub use printing::{
+    printed_name_is_read_again, printed_number_is_read_again, printed_set_is_read_again,
+    printed_text_is_read_again,
+};
+pub use reading::{LineReader, NamesStop, TextLine, WordReader};
+pub use scan::{lines, readable};
+pub use tokens::{LexStop, Lines, Readable, Token, TokenKind};

@@ -3,13 +3,14 @@ ghost use Rattle.std.specs.Prelude.{◌≡◌, ◌≤◌, ◌<◌, ◌+◌, ◌+
 ghost use Rattle.qsr_lex.specs.declared.tokens.TokenKind.TheVariants.{Colon, Colons};
 ghost use Rattle.std.specs.List.{list_all, prefix_len};
 ghost use Rattle.qsr_lex.specs.Bytes.{is_allowed, is_word_byte};
-ghost use Rattle.qsr_lex.specs.TextLines.{line_count, first_line_len, starts_with_lf, starts_with_end, outside, bad_line};
+ghost use Rattle.qsr_lex.specs.TextLines.{line_count, first_line_len, starts_with_lf, starts_with_end, outside, bad_line, readable_text};
 ghost use Rattle.qsr_lex.specs.Lexemes.{starts_with_colon, tail_len, kind_of};
 ghost use Rattle.qsr_lex.specs.Tokens.{token_here, tokens_behind, tokens_of, AreApart};
+ghost use Rattle.qsr_lex.specs.TokenLines.{by_line, token_lines};
 ghost use Rattle.qsr_lex.specs.Stops.{IsStopOf};
 
 use crate::bytes::{is_allowed, is_blank, is_word_byte};
-use crate::tokens::{LexStop, Lines, Token, TokenKind};
+use crate::tokens::{LexStop, Lines, Readable, Token, TokenKind};
 use std::alloc::{AllocError, Global};
 
 /// The tokens of a text of at most 16,777,216 bytes, and the number of its lines.
@@ -20,10 +21,34 @@ pub fn lines(alloc: Global, bytes: &[u8]) -> Result<Lines, LexStop>
     ensures tokens { IfOk result (λ lines. lines.tokens.items ≡ tokens_of bytes.now) }
     // Each token is the slice from its start to its end, and none of these slices overlap.
     ensures apart { IfOk result (λ lines. AreApart 0 lines.tokens.items (length bytes.now)) }
+    ensures words { IfOk result (λ lines. by_line bytes.now lines.tokens.items ≡ token_lines bytes.now) }
     ensures count { IfOk result (λ lines. lines.count ≡ line_count bytes.now) }
 
     // The first line with such a byte is the one that is named.
     ensures stop { IfErr result (IsStopOf bytes.now) }
+{
+    let Readable {
+        tokens,
+        count,
+        bad_line,
+    } = readable(alloc, bytes)?;
+    match bad_line {
+        Some(line) => Err(LexStop::BadByte { line }),
+        None => Ok(Lines { tokens, count }),
+    }
+}
+
+/// The tokens of a text of at most 16,777,216 bytes up to the first line with a byte that isn't
+/// allowed, and the number of that line. The only error is want of memory.
+pub fn readable(alloc: Global, bytes: &[u8]) -> Result<Readable, LexStop>
+    requires { length bytes.now ≤ 16777216 }
+    ensures tokens { IfOk result (λ found. found.tokens.items ≡ tokens_of (readable_text bytes.now)) }
+    ensures apart { IfOk result (λ found. AreApart 0 found.tokens.items (length bytes.now)) }
+    ensures words { IfOk result (λ found. by_line bytes.now found.tokens.items ≡ token_lines (readable_text bytes.now)) }
+    ensures count { IfOk result (λ found. found.count ≡ line_count (readable_text bytes.now)) }
+    ensures bad_line { IfOk result (λ found. found.bad_line ≡ bad_line bytes.now) }
+    ensures clean { OnOk result (bad_line (readable_text bytes.now) ≡ None) }
+    ensures memory { IfErr result (λ stop. stop ≡ LexStop.Memory) }
 {
     let mut tokens = Vec::new(alloc);
     let mut count = 0;
@@ -32,7 +57,11 @@ pub fn lines(alloc: Global, bytes: &[u8]) -> Result<Lines, LexStop>
         let (line, after) = rest.split_at(first_line_len(rest));
         let part = outside(line);
         if !are_allowed(part) {
-            return Err(LexStop::BadByte { line: count + 1 });
+            return Ok(Readable {
+                tokens,
+                count,
+                bad_line: Some(count + 1),
+            });
         }
         add_tokens(&mut tokens, count + 1, bytes.len() - rest.len(), part).map_err(
             |_| LexStop::Memory,
@@ -40,7 +69,11 @@ pub fn lines(alloc: Global, bytes: &[u8]) -> Result<Lines, LexStop>
         count += 1;
         rest = after;
     }
-    Ok(Lines { tokens, count })
+    Ok(Readable {
+        tokens,
+        count,
+        bad_line: None,
+    })
 }
 
 // How many bytes the first line has, with its LF.

@@ -52,3 +52,14 @@ pub enum LexStop {
     /// Memory ran out.
     Memory,
 }
+
+/// What of a text can be read: its lines before the first one with a byte that isn't allowed.
+#[derive(Debug, Drop)]
+pub struct Readable {
+    /// The tokens of those lines, in the order in which they stand.
+    pub tokens: Vec<Token>,
+    /// How many lines those are, those without tokens too.
+    pub count: u32,
+    /// The number of the first line with a byte outside comments that isn't allowed there, from 1.
+    pub bad_line: Option<u32>,
+}

@@ -1,0 +1,213 @@
+//! Reading a text line by line, and a line token by token.
+ghost use Rattle.std.specs.Prelude.{◌≡◌, ◌≤◌, ◌↔◌, length, slice_range, List, [], ◌∷◌, Some, None, MatchOption, MatchBool, IsTrue, IfOk, IsErrOf, map, ◌==◌};
+ghost use Rattle.std.specs.List.{prefix_len};
+ghost use Rattle.qsr_lex.specs.Tokens.{AreApart};
+ghost use Rattle.qsr_lex.specs.TokenLines.{by_line, token_line, lexeme_of};
+ghost use Rattle.qsr_lex.specs.Words.{word_at, name_at, names_at, behind_kind, behind_word, is_same_kind, is_name_token, is_word_token};
+ghost use Rattle.qsr_lex.specs.declared.tokens.TokenKind.TheVariants.{Word};
+
+use crate::names::is_name;
+use crate::tokens::{Token, TokenKind};
+use std::alloc::Global;
+use std::marker::Model;
+
+/// The lines of a text that have tokens, from the next one on.
+#[derive(Drop)]
+pub struct LineReader<'a> {
+    bytes: &'a [u8],
+    tokens: &'a [Token],
+}
+
+/// A line that has tokens.
+#[derive(Drop)]
+pub struct TextLine<'a> {
+    /// Its number, from 1.
+    pub number: u32,
+    /// Its tokens.
+    pub words: WordReader<'a>,
+}
+
+/// The tokens of a line, from the next one on.
+#[derive(Drop)]
+pub struct WordReader<'a> {
+    bytes: &'a [u8],
+    tokens: &'a [Token],
+}
+
+impl<'a> Model for LineReader<'a> {
+    ghost use Rattle.std.specs.Prelude.{List, length};
+    ghost use Rattle.qsr_lex.specs.TokenLines.{TokenLine, by_line, AreWithin};
+
+    ghost Value = { List TokenLine };
+
+    ghost view = { λ r. by_line r.bytes.now r.tokens.now };
+
+    ghost invariant = { λ r. AreWithin (length r.bytes.now) r.tokens.now };
+}
+
+impl<'a> Model for WordReader<'a> {
+    ghost use Rattle.std.specs.Prelude.{List, length};
+    ghost use Rattle.qsr_lex.specs.Lexemes.{Lexeme};
+    ghost use Rattle.qsr_lex.specs.TokenLines.{words_of, AreWithin};
+
+    ghost Value = { List Lexeme };
+
+    ghost view = { λ r. words_of r.bytes.now r.tokens.now };
+
+    ghost invariant = { λ r. AreWithin (length r.bytes.now) r.tokens.now };
+}
+
+impl<'a> LineReader<'a> {
+    /// Before the first line of tokens of a text.
+    pub fn new(bytes: &'a [u8], tokens: &'a [Token]) -> Self
+        requires { AreApart 0 tokens.now (length bytes.now) }
+        ensures { result ≡ by_line bytes.now tokens.now }
+    {
+        LineReader { bytes, tokens }
+    }
+
+    /// The next line, and goes behind it.
+    pub fn next_line(&mut self) -> Option<TextLine<'a>>
+        ensures { MatchOption result ((self.old ≡ []) × (self.new ≡ []))
+            (λ line. self.old ≡ token_line line.number line.words ∷ self.new) }
+    {
+        match self.tokens {
+            [] => None,
+            [first, ..] => {
+                let number = first.line;
+                let (here, behind) = self.tokens.split_at(run_len(self.tokens, number));
+                self.tokens = behind;
+                Some(TextLine {
+                    number,
+                    words: WordReader {
+                        bytes: self.bytes,
+                        tokens: here,
+                    },
+                })
+            }
+        }
+    }
+}
+
+impl<'a> WordReader<'a> {
+    /// Whether no token is left.
+    pub fn is_empty(&self) -> bool
+        ensures { IsTrue result ↔ (self.now ≡ []) }
+    {
+        self.tokens.is_empty()
+    }
+
+    /// The next token's text where it is a word, and goes behind it.
+    pub fn word(&mut self) -> Option<&'a [u8]>
+        ensures { MatchOption result ((word_at self.old ≡ None) × (self.new ≡ self.old))
+            (λ text. word_at self.old ≡ Some (text.now, self.new)) }
+    {
+        match self.tokens {
+            [first, behind @ ..] if is_same_kind(first.kind, TokenKind::Word) => {
+                self.tokens = behind;
+                Some(&self.bytes[first.start..first.end])
+            }
+            _ => None,
+        }
+    }
+
+    /// The next token's text where it is a name, and goes behind it.
+    pub fn name(&mut self) -> Option<&'a [u8]>
+        ensures { MatchOption result ((name_at self.old ≡ None) × (self.new ≡ self.old))
+            (λ text. name_at self.old ≡ Some (text.now, self.new)) }
+    {
+        match self.tokens {
+            [first, behind @ ..] if is_name_token(self.bytes, first) => {
+                self.tokens = behind;
+                Some(&self.bytes[first.start..first.end])
+            }
+            _ => None,
+        }
+    }
+
+    /// Goes behind the next token where it is this word, and says whether it is.
+    pub fn take_word(&mut self, text: &[u8]) -> bool
+        ensures { MatchBool result (behind_word text.now self.old ≡ Some self.new)
+            ((behind_word text.now self.old ≡ None) × (self.new ≡ self.old)) }
+    {
+        match self.tokens {
+            [first, behind @ ..] if is_word_token(self.bytes, first, text) => {
+                self.tokens = behind;
+                true
+            }
+            _ => false,
+        }
+    }
+
+    /// Goes behind the next token where it is of this kind, and says whether it is.
+    pub fn take_kind(&mut self, kind: TokenKind) -> bool
+        ensures { MatchBool result (behind_kind kind self.old ≡ Some self.new)
+            ((behind_kind kind self.old ≡ None) × (self.new ≡ self.old)) }
+    {
+        match self.tokens {
+            [first, behind @ ..] if is_same_kind(first.kind, kind) => {
+                self.tokens = behind;
+                true
+            }
+            _ => false,
+        }
+    }
+
+    /// The names between brackets, and goes behind them. After an error the reader stands somewhere in the line.
+    pub fn names(&mut self, alloc: Global) -> Result<Vec<&'a [u8]>, NamesStop>
+        ensures names { IfOk result (λ names.
+            names_at self.old ≡ Some (map (λ name. name.now) names.items, self.new)) }
+        ensures form { IsErrOf result NamesStop.Form → names_at self.old ≡ None }
+    {
+        if !self.take_kind(TokenKind::Open) {
+            return Err(NamesStop::Form);
+        }
+        let mut names = Vec::new(alloc);
+        while !self.take_kind(TokenKind::Close) {
+            let Some(name) = self.name() else {
+                return Err(NamesStop::Form);
+            };
+            names.push(name).map_err(|_| NamesStop::Memory)?;
+        }
+        Ok(names)
+    }
+}
+
+fn is_name_token(bytes: &[u8], token: &Token) -> bool
+    requires from { token.now.start ≤ token.now.end }
+    requires to { token.now.end ≤ length bytes.now }
+    ensures { result ≡ is_name_token (lexeme_of bytes.now token.now) }
+{
+    is_same_kind(token.kind, TokenKind::Word) && is_name(&bytes[token.start..token.end])
+}
+
+fn is_word_token(bytes: &[u8], token: &Token, text: &[u8]) -> bool
+    requires from { token.now.start ≤ token.now.end }
+    requires to { token.now.end ≤ length bytes.now }
+    ensures { result ≡ is_word_token text.now (lexeme_of bytes.now token.now) }
+{
+    is_same_kind(token.kind, TokenKind::Word) && &bytes[token.start..token.end] == text
+}
+
+fn is_same_kind(left: TokenKind, right: TokenKind) -> bool
+    ensures { result ≡ is_same_kind left right }
+{
+    left == right
+}
+
+// How many tokens at the front stand in a line.
+fn run_len(tokens: &[Token], line: u32) -> usize
+    ensures value { result ≡ prefix_len (λ t. t.line == line) tokens.now }
+    ensures bound { result ≤ length tokens.now }
+{
+    tokens.iter().take_while(|token| token.line == line).count()
+}
+
+/// Why no names were read.
+#[derive(Clone, Copy, Debug, PartialEq, Eq)]
+pub enum NamesStop {
+    /// No names in brackets stand there.
+    Form,
+    /// Memory ran out.
+    Memory,
+}
