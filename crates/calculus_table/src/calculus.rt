@@ -101,9 +101,16 @@ impl Calculus {
 }
 
 impl Compose for Calculus {
+    ghost use Rattle.std.specs.Prelude.{◌≡◌};
+    ghost use Rattle.calculus_table.specs.Calculus.{IsCalculus, NamesItsBases};
+
     ghost meaning = { λ c. c.meaning };
 
-    fn size(&self) -> u32 {
+    fn size(&self) -> u32
+        ensures value { result ≡ self.now.meaning.size }
+        ensures calculus { IsCalculus self.now.meaning }
+        ensures names { NamesItsBases self.now }
+    {
         self.table.size()
     }
 

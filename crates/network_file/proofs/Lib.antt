@@ -1,1 +1,5 @@
 pub mod Texts
+pub mod NamesRead
+pub mod PlacesOfNames
+pub mod NamesLine
+pub mod FactLines

@@ -1,2 +1,6 @@
 pub mod NetworkText
+pub mod LineForms
+pub mod NetworkFile
 pub use Rattle.network_words.specs.Network
+pub use Rattle.network_words.specs.Facts
+pub use Rattle.network_words.specs.NetFault

@@ -1,6 +1,14 @@
-//! Network files: the canonical text of a network.
+//! Network files: reading them, and the canonical text of a network.
 #![tactic(auto)]
 
+mod facts;
+mod fault;
+mod forms;
+mod names;
+mod reading;
+mod text_end;
 mod writing;
 
+pub use fault::FileFault;
+pub use reading::read;
 pub use writing::text;

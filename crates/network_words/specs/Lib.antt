@@ -2,6 +2,9 @@ pub mod Edge
 pub mod Network
 pub mod Facts
 pub mod Closure
+pub mod NetFault
+pub mod Scenario
+pub mod Laws
 pub use Rattle.calculus_table.specs.Rel
 pub use Rattle.calculus_table.specs.Meaning
 pub use Rattle.calculus_table.specs.Composition

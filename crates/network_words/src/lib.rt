@@ -2,9 +2,11 @@
 #![tactic(auto)]
 
 mod fact;
+mod laws;
 mod net;
 
 pub use fact::Fact;
+pub use laws::laws_of_networks;
 pub use net::{Net, NetFault};
 
 /// The greatest number of nodes that a network may have.

@@ -1,5 +1,6 @@
 use crate::MAX_NODES;
-use calculus_table::{Compose, Rel};
+use crate::fact::{Fact, first_fault};
+use calculus_table::{Compose, Memory, Rel, first_repeat};
 use std::alloc::Global;
 use std::marker::Model;
 
@@ -40,7 +41,11 @@ impl Model for Net {
 }
 
 impl Net {
-    ghost use Rattle.std.specs.Prelude.{◌≡◌, ℕ, ◌<◌, ◌≤◌, ◌↔◌, ◌⊎◌, [], replicate, slice_index, slice_set, IfOk, IfErr, IsErrOf, MatchOption, slice_get, Some};
+    ghost use Rattle.std.specs.Prelude.{◌≡◌, ◌≢◌, ℕ, ◌<◌, ◌≤◌, ◌^◌, ◌↔◌, ◌⊎◌, [], All, length, map, replicate, slice_index, slice_set, IfOk, IfErr, OnOk, OnErr, IsErrOf, MatchOption, slice_get, Some, None};
+    ghost use Rattle.std.specs.String.{string_bytes};
+    ghost use Rattle.calculus_table.specs.Calculus.{AreDistinct};
+    ghost use Rattle.network_words.specs.Facts.{IsNetOf, met_with};
+    ghost use Rattle.network_words.specs.NetFault.{IsNamesFaultOf, first_fault};
     ghost use Rattle.calculus_table.specs.Rel.{IsWithin};
     ghost use Rattle.calculus_table.specs.Composition.{full_of};
     ghost use Rattle.network_words.specs.Edge.{edge_count, edge_at, IsProperPair};
@@ -63,6 +68,40 @@ impl Net {
             words,
             names: Vec::new(alloc),
         })
+    }
+
+    /// An equal network.
+    pub fn copy(&self) -> Result<Net, Memory>
+        ensures { IfOk result (λ copy. copy ≡ self.now) }
+    {
+        let Ok(words) = self.words.clone() else {
+            return Err(Memory);
+        };
+        let Ok(names) = self.names.clone() else {
+            return Err(Memory);
+        };
+        Ok(Net {
+            nodes: self.nodes,
+            full: self.full,
+            words,
+            names,
+        })
+    }
+
+    /// Names the nodes.
+    pub fn set_names(&mut self, names: Vec<String>) -> Result<(), NetFault>
+        requires { length names.items ≡ self.old.nodes }
+        ensures ok { OnOk result (self.new ≡ record self.old { names = map string_bytes names.items }) }
+        ensures distinct { OnOk result (AreDistinct (map string_bytes names.items)) }
+        ensures fault { IfErr result (IsNamesFaultOf (map string_bytes names.items)) }
+        ensures kept { OnErr result (self.new ≡ self.old) }
+    {
+        prove!(names.len() == self.nodes as usize);
+        if let Some(at) = first_repeat(&names) {
+            return Err(NetFault::NameTwice { at });
+        }
+        self.names = names;
+        Ok(())
     }
 
     /// The number of nodes.
@@ -134,6 +173,20 @@ impl Net {
         }
     }
 
+    /// The node of this name.
+    pub fn find(&self, name: &[u8]) -> Option<u32>
+        ensures { MatchOption result
+            ((node : ℕ) → slice_get self.now.names node ≢ Some name.now)
+            (λ node. (node < self.now.nodes) × (slice_get self.now.names node ≡ Some name.now)) }
+    {
+        for node in 0..self.names.len() {
+            if self.names[node].as_bytes() == name {
+                return Some(node as u32);
+            }
+        }
+        None
+    }
+
     /// The set of the pair `(i, j)`, turned by the converse where `i > j`.
     pub fn get<C: Compose>(&self, c: &C, i: u32, j: u32) -> Rel
         requires proper { IsProperPair self.now.nodes i j }
@@ -160,5 +213,27 @@ impl Net {
             (self.edge(j, i), c.converse(rel))
         };
         self.set(edge, self.word(edge).meet(rel));
+    }
+
+    /// Meets the set of each fact's pair with the fact's set.
+    pub fn add_facts<C: Compose>(&mut self, c: &C, facts: &[Fact]) -> Result<(), NetFault>
+        requires few { length facts.now < 2 ^ 32 }
+        requires within { All (λ fact. IsWithin fact.rel (full_of (C.meaning c.now))) facts.now }
+        ensures ok { OnOk result (self.new ≡ record self.old { words = met_with (C.meaning c.now) self.old.nodes self.old.words facts.now }) }
+        ensures net { OnOk result (self.old.words ≡ replicate (edge_count self.old.nodes) (full_of (C.meaning c.now))
+            → IsNetOf (C.meaning c.now) self.old.nodes facts.now self.new.words) }
+
+        // A fault comes exactly where a fact has one, and it is that of the first such fact.
+        ensures proper { OnOk result (first_fault self.old.nodes 0 facts.now ≡ None) }
+        ensures fault { IfErr result (λ fault. first_fault self.old.nodes 0 facts.now ≡ Some fault) }
+        ensures kept { OnErr result (self.new ≡ self.old) }
+    {
+        if let Some(fault) = first_fault(self.nodes, facts) {
+            return Err(fault);
+        }
+        for fact in facts {
+            self.narrow(c, fact.i, fact.j, fact.rel);
+        }
+        Ok(())
     }
 }

@@ -1,21 +1,19 @@
 -- The lines before the first one with a byte that isn't allowed.
-use Rattle.std.proofs.Common.{◌≡◌, ℕ, zero, suc, ◌+◌, ◌<◌, ◌≤◌, Bool, true, false, cond, List, [], ◌∷◌, ◌++◌, length, take, drop, Option, Some, None, refl, sym, ap, ◌∙◌, subst, arith, append_assoc}
+use Rattle.std.proofs.Common.{◌≡◌, ℕ, zero, suc, ◌+◌, Bool, true, false, cond, List, [], ◌∷◌, ◌++◌, length, take, Some, None, refl, sym, ap, ◌∙◌, subst, arith, append_assoc}
 use Rattle.std.specs.List.{flat_map}
-use Rattle.std.proofs.lemmas.List.{length-append, append-nil}
+use Rattle.std.proofs.lemmas.List.{length-append}
 use Rattle.qsr_lex.specs.Bytes.{is_lf}
 use Rattle.qsr_lex.specs.TextLines.{add_byte, text_lines, is_clean, clean_front, readable_text, line_count, bad_line, bad_line_from}
-use Rattle.qsr_lex.specs.Tokens.{tokens_of, tokens_of_lines, AreApart}
+use Rattle.qsr_lex.specs.Tokens.{tokens_of, tokens_of_lines, token_bytes, shown_bytes, AreApart}
 use Rattle.qsr_lex.specs.TokenLines.{by_line, token_lines}
 use Rattle.qsr_lex.specs.declared.tokens.Token.{Token}
+use Rattle.qsr_lex.proofs.Scanning.{add_byte-lf}
 use Rattle.qsr_lex.proofs.Spans.{concat-text_lines, AreApart-later, AreApart-tokens_of, length-text_lines}
+use Rattle.qsr_lex.proofs.NoByteLost.{token_bytes-tokens_of}
 use Rattle.qsr_lex.proofs.Grouping.{by_line-tokens_of}
 
 abbrev concat : List (List ℕ) → List ℕ
 concat ls = flat_map (λ l. l) ls
-
-add_byte-lf : (b : ℕ) (ls : List (List ℕ)) → is_lf b ≡ true → add_byte b ls ≡ (b ∷ []) ∷ ls
-add_byte-lf b [] h = refl
-add_byte-lf b (l ∷ ls) h = ap (λ c. cond c ((b ∷ []) ∷ l ∷ ls) ((b ∷ l) ∷ ls)) h
 
 -- the first lines of a text are a text with those lines
 front_lines : (b k : ℕ) (bs l : List ℕ) (ls : List (List ℕ)) → text_lines bs ≡ l ∷ ls
@@ -98,6 +96,11 @@ by_line-readable bs =
     let rest = clean_front-rest (text_lines bs) in
     by_line-tokens_of bs (readable_text bs) rest.0 (sym (concat-text_lines bs) ∙ rest.1)
 
+token_bytes-readable : (bs : List ℕ) → token_bytes bs (tokens_of (readable_text bs)) ≡ shown_bytes (readable_text bs)
+token_bytes-readable bs =
+    let rest = clean_front-rest (text_lines bs) in
+    token_bytes-tokens_of bs (readable_text bs) rest.0 (sym (concat-text_lines bs) ∙ rest.1)
+
 AreApart-readable : (bs : List ℕ) → AreApart 0 (tokens_of (readable_text bs)) (length bs)
 AreApart-readable bs =
     let rest = clean_front-rest (text_lines bs) in
@@ -109,6 +112,7 @@ AreApart-readable bs =
 pub record IsReadable (bs : List ℕ) (ts : List Token) (n : ℕ) : Type 0 where
   pub tokens : ts ≡ tokens_of (readable_text bs)
   pub apart : AreApart 0 ts (length bs)
+  pub shown : token_bytes bs ts ≡ shown_bytes (readable_text bs)
   pub words : by_line bs ts ≡ token_lines (readable_text bs)
   pub count : n ≡ line_count (readable_text bs)
 
@@ -119,6 +123,7 @@ IsReadable-from_lines bs ts count told counted =
     record {
       tokens = all;
       apart = subst (λ us. AreApart 0 us (length bs)) (sym all) (AreApart-readable bs);
+      shown = ap (token_bytes bs) all ∙ token_bytes-readable bs;
       words = ap (by_line bs) all ∙ by_line-readable bs;
       count = counted ∙ ap length (sym (text_lines-readable bs)) ∙ length-text_lines (readable_text bs);
     }

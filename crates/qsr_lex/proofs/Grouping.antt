@@ -1,7 +1,7 @@
 -- The tokens of a text, taken line by line, are the tokens of its lines.
-use Rattle.std.proofs.Common.{◌≡◌, ◌≢◌, ℕ, zero, suc, ◌+◌, ◌-◌, ◌==◌, ◌<◌, ◌≤◌, Bool, true, false, cond, List, [], ◌∷◌, ◌++◌, length, take, drop, refl, sym, ap, ◌∙◌, subst, arith, append_assoc}
-use Rattle.std.specs.List.{flat_map, prefix_len}
-use Rattle.std.proofs.lemmas.List.{drop-drop, drop_at, take-append-drop, take-append-le, length-append}
+use Rattle.std.proofs.Common.{◌≡◌, ℕ, zero, suc, ◌+◌, ◌-◌, ◌==◌, ◌<◌, ◌≤◌, Bool, true, false, cond, List, [], ◌∷◌, ◌++◌, length, take, drop, refl, sym, ap, ◌∙◌, arith, append_assoc}
+use Rattle.std.specs.List.{flat_map}
+use Rattle.std.proofs.lemmas.List.{drop-drop, drop_at, take-append-drop, take-append-le}
 use Rattle.std.proofs.lemmas.Bool.Decides.{nat_tests}
 use Rattle.qsr_lex.specs.Bytes.{is_blank}
 use Rattle.qsr_lex.specs.TextLines.{text_lines, outside}
@@ -9,7 +9,7 @@ use Rattle.qsr_lex.specs.Lexemes.{Lexeme, lexemes, lexemes_behind, tail_len, kin
 use Rattle.qsr_lex.specs.Tokens.{tokens_behind, tokens_of_lines, tokens_of}
 use Rattle.qsr_lex.specs.TokenLines.{TokenLine, add_line, add_word, by_line, lexeme_of, token_lines, token_lines_from}
 use Rattle.qsr_lex.specs.declared.tokens.Token.{Token}
-use Rattle.qsr_lex.proofs.Scanning.{outside-take, length-outside-le}
+use Rattle.qsr_lex.proofs.Scanning.{outside-take}
 use Rattle.qsr_lex.proofs.Spans.{concat-text_lines, tail_len-le}
 
 -- the lines come behind line n
@@ -40,11 +40,11 @@ add_word-add_line n x (y ∷ ys) ls h =
     ap (λ c. cond c (record { number = n; words = x ∷ y ∷ ys } ∷ ls) (record { number = n; words = x ∷ [] } ∷ record { number = n; words = y ∷ ys } ∷ ls)) (same_number n)
 
 -- what follows the next byte
-drop_next : (at b : ℕ) (whole rest : List ℕ) → drop at whole ≡ b ∷ rest → drop (at + 1) whole ≡ rest
+pub drop_next : (at b : ℕ) (whole rest : List ℕ) → drop at whole ≡ b ∷ rest → drop (at + 1) whole ≡ rest
 drop_next at b whole rest h = sym (drop-drop 1 at whole) ∙ ap (drop 1) h
 
 -- the bytes from the start of a token to its end
-token_text : (at t b : ℕ) (whole bs more : List ℕ) → drop at whole ≡ b ∷ (bs ++ more) → t ≤ length bs
+pub token_text : (at t b : ℕ) (whole bs more : List ℕ) → drop at whole ≡ b ∷ (bs ++ more) → t ≤ length bs
     → take (at + (1 + t) - at) (drop at whole) ≡ b ∷ take t bs
 token_text at t b whole bs more h short =
     let n : at + (1 + t) - at ≡ suc t = omega arith in
@@ -76,12 +76,12 @@ by_line-part whole n at zero (b ∷ bs) more us ls place told behind =
     (by_line-part whole n (at + 1) t bs more us ls (drop_next at b whole (bs ++ more) place) told behind)
     behind
 
-line_parts : (l rest : List ℕ) → l ++ rest ≡ outside l ++ (drop (length (outside l)) l ++ rest)
+pub line_parts : (l rest : List ℕ) → l ++ rest ≡ outside l ++ (drop (length (outside l)) l ++ rest)
 line_parts l rest =
     ap (λ xs. xs ++ rest) (sym (take-append-drop (length (outside l)) l) ∙ ap (λ xs. xs ++ drop (length (outside l)) l) (outside-take l))
     ∙ append_assoc (outside l) (drop (length (outside l)) l) rest
 
-next_line : (at : ℕ) (whole l rest : List ℕ) → drop at whole ≡ l ++ rest → drop (at + length l) whole ≡ rest
+pub next_line : (at : ℕ) (whole l rest : List ℕ) → drop at whole ≡ l ++ rest → drop (at + length l) whole ≡ rest
 next_line at whole l rest place = sym (drop-drop (length l) at whole) ∙ ap (drop (length l)) place ∙ drop_at l rest (length l) refl
 
 by_line-lines : (whole more : List ℕ) (n at : ℕ) (ls : List (List ℕ)) → drop at whole ≡ flat_map (λ l. l) ls ++ more

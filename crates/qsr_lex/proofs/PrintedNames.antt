@@ -1,17 +1,17 @@
 -- Names and sets of names that are printed are read again.
-use Rattle.std.proofs.Common.{◌≡◌, ℕ, zero, suc, ◌+◌, ◌==◌, ◌<◌, ◌≤◌, Bool, true, false, not, ◌&&◌, ◌||◌, cond, nat_le, List, [], ◌∷◌, ◌++◌, length, map, Option, Some, None, option_map, refl, sym, ap, ◌∙◌, arith}
+use Rattle.std.proofs.Common.{◌≡◌, ℕ, zero, suc, ◌<◌, ◌==◌, Bool, true, false, not, ◌&&◌, ◌||◌, cond, nat_le, get_or, List, [], ◌∷◌, ◌++◌, length, map, Some, None, option_map, refl, sym, ap, ◌∙◌, arith}
 use Rattle.std.specs.List.{list_all, prefix_len}
 use Rattle.std.proofs.lemmas.List.{append-nil}
 use Rattle.std.proofs.lemmas.Bool.{and_parts}
+use Rattle.std.specs.Str.{IsAscii}
 use Rattle.std.proofs.lemmas.Bool.Decides.{nat_tests}
 use Rattle.qsr_lex.specs.Bytes.{is_allowed, is_word_byte}
-use Rattle.qsr_lex.specs.Lexemes.{Lexeme, kind_of, starts_with_colon}
+use Rattle.qsr_lex.specs.Lexemes.{kind_of, starts_with_colon}
 use Rattle.qsr_lex.specs.Names.{is_name, is_name_byte, starts_with_digit, is_stop}
-use Rattle.qsr_lex.specs.Words.{is_same_kind, is_name_token, names_at, names_before_close}
+use Rattle.qsr_lex.specs.Words.{is_same_kind, is_name_token, names_before_close}
 use Rattle.qsr_lex.specs.Printed.{is_mark_text, is_word_char, is_token_text, lexeme_from, IsPrintedName, IsPrintedSet}
-use Rattle.qsr_lex.specs.declared.tokens.TokenKind.{TokenKind}
 use Rattle.qsr_lex.specs.declared.tokens.TokenKind.TheVariants.{Word, Open, Close, Comma, Colon, Colons, Stop}
-use Rattle.qsr_lex.proofs.PrintedText.{word_run, kind_by}
+use Rattle.qsr_lex.proofs.PrintedText.{word_run}
 
 -- a name's parts
 pub record IsNameText (w : List ℕ) : Type 0 where
@@ -39,6 +39,21 @@ IsNameText-from_test w h =
       word = name_chars w chars.1;
       no_stop = false_from_not (is_stop w) outer.1;
     }
+
+-- a name is ASCII
+ascii_byte : (b : ℕ) → is_word_char b ≡ true → b < 128
+ascii_byte b h = let allowed = (and_parts (is_allowed b) (is_word_byte b) h).0 in grind (arith, nat_tests, allowed)
+
+ascii_at : (b : ℕ) (bs : List ℕ) → is_word_char b ≡ true → IsAscii bs → (i : ℕ) → get_or (b ∷ bs) i 0 < 128
+ascii_at b bs h below zero = ascii_byte b h
+ascii_at b bs h below (suc i) = below i
+
+IsAscii-word : (w : List ℕ) → list_all is_word_char w ≡ true → IsAscii w
+IsAscii-word [] h = λ i. omega arith
+IsAscii-word (b ∷ bs) h = λ i. ascii_at b bs (and_parts (is_word_char b) (list_all is_word_char bs) h).0 (IsAscii-word bs (and_parts (is_word_char b) (list_all is_word_char bs) h).1) i
+
+pub IsAscii-name : (w : List ℕ) → is_name w ≡ true → IsAscii w
+IsAscii-name w h = IsAscii-word w (IsNameText-from_test w h).word
 
 -- a word is a token
 or_true : (x y : Bool) → y ≡ true → (x || y) ≡ true

@@ -1,15 +1,16 @@
 -- Tokens that are printed with one space between are read again.
-use Rattle.std.proofs.Common.{◌≡◌, ℕ, zero, suc, ◌+◌, ◌⊎◌, inl, inr, ◌==◌, ◌<◌, ◌≤◌, Bool, true, false, not, ◌&&◌, ◌||◌, cond, nat_le, List, [], ◌∷◌, ◌++◌, length, take, drop, map, Option, Some, None, refl, sym, ap, ◌∙◌, subst, arith, append_assoc}
-use Rattle.std.specs.List.{list_all, prefix_len, flat_map}
+use Rattle.std.proofs.Common.{◌≡◌, ℕ, suc, ◌+◌, ◌⊎◌, inl, inr, ◌==◌, Bool, true, false, not, ◌&&◌, ◌||◌, cond, nat_le, List, [], ◌∷◌, ◌++◌, length, take, map, Some, None, refl, sym, ap, ◌∙◌, arith, append_assoc}
+use Rattle.std.specs.List.{list_all, prefix_len}
 use Rattle.std.proofs.lemmas.List.{take_at, append-nil, length-map}
-use Rattle.std.proofs.lemmas.Bool.{and_parts, eqb-true}
+use Rattle.std.proofs.lemmas.Bool.{and_parts}
 use Rattle.std.proofs.lemmas.Bool.Decides.{nat_tests}
 use Rattle.qsr_lex.specs.Bytes.{is_lf, is_hash, is_blank, is_mark, is_allowed, is_word_byte}
-use Rattle.qsr_lex.specs.TextLines.{add_byte, text_lines, starts_with_lf, starts_with_end, outside, is_clean, bad_line, bad_line_from, line_count}
-use Rattle.qsr_lex.specs.Lexemes.{Lexeme, lexemes, lexemes_behind, lexeme_here, tail_len, kind_of, starts_with_colon}
+use Rattle.qsr_lex.specs.TextLines.{add_byte, text_lines, starts_with_lf, starts_with_end, outside, is_clean, bad_line_from}
+use Rattle.qsr_lex.specs.Lexemes.{lexemes, lexemes_behind, tail_len, kind_of, starts_with_colon}
 use Rattle.qsr_lex.specs.declared.tokens.TokenKind.{TokenKind}
 use Rattle.qsr_lex.specs.declared.tokens.TokenKind.TheVariants.{Word, Open, Close, Comma, Colon, Colons, Stop}
-use Rattle.qsr_lex.specs.TokenLines.{token_lines, token_lines_from, add_line}
+use Rattle.qsr_lex.specs.TokenLines.{token_lines_from, add_line}
+use Rattle.qsr_lex.proofs.Scanning.{add_byte-lf}
 use Rattle.qsr_lex.proofs.Spans.{length-text_lines}
 use Rattle.qsr_lex.specs.Printed.{is_mark_text, is_word_char, is_token_text, are_tokens, lexeme_from, IsReadAgain, spaced, printed_line, printed, printed_token_lines}
 
@@ -210,12 +211,8 @@ allowed_plain (b ∷ bs) h =
     let parts = and_parts (is_plain b) (list_all is_plain bs) h in
     ap (λ c. c && list_all is_allowed bs) (plain_byte b parts.0).3 ∙ allowed_plain bs parts.1
 
-lf_line : (b : ℕ) (ls : List (List ℕ)) → is_lf b ≡ true → add_byte b ls ≡ (b ∷ []) ∷ ls
-lf_line b [] h = refl
-lf_line b (l ∷ ls) h = ap (λ c. cond c ((b ∷ []) ∷ l ∷ ls) ((b ∷ l) ∷ ls)) h
-
 text_lines-plain : (bs rest : List ℕ) → list_all is_plain bs ≡ true → text_lines (bs ++ 10 ∷ rest) ≡ (bs ++ 10 ∷ []) ∷ text_lines rest
-text_lines-plain [] rest h = lf_line 10 (text_lines rest) refl
+text_lines-plain [] rest h = add_byte-lf 10 (text_lines rest) refl
 text_lines-plain (b ∷ bs) rest h =
     let parts = and_parts (is_plain b) (list_all is_plain bs) h in
     ap (add_byte b) (text_lines-plain bs rest parts.1)

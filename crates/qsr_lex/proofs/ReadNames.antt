@@ -1,8 +1,8 @@
 -- How the names in brackets come off the front of a line.
-use Rattle.std.proofs.Common.{◌≡◌, ℕ, ◌+◌, ◌<◌, Bool, true, false, cond, List, [], ◌∷◌, ◌++◌, length, Option, Some, None, option_map, refl, sym, ap, ◌∙◌, arith, append_assoc}
+use Rattle.std.proofs.Common.{◌≡◌, ℕ, Bool, true, false, cond, List, [], ◌∷◌, ◌++◌, Option, Some, None, option_map, refl, sym, ap, ◌∙◌, append_assoc}
 use Rattle.qsr_lex.specs.Lexemes.{Lexeme}
-use Rattle.qsr_lex.specs.Words.{behind_kind, name_at, names_at, names_before_close, is_same_kind, is_name_token}
-use Rattle.qsr_lex.specs.declared.tokens.TokenKind.TheVariants.{Open, Close}
+use Rattle.qsr_lex.specs.Words.{behind_kind, name_at, names_before_close, is_same_kind, is_name_token}
+use Rattle.qsr_lex.specs.declared.tokens.TokenKind.TheVariants.{Close}
 
 -- these names in front of those that are found
 abbrev pub behind_names : List (List ℕ) → Option (List (List ℕ) × List Lexeme) → Option (List (List ℕ) × List Lexeme)

@@ -1,9 +1,9 @@
 -- How the lines of a text and the tokens of a line come off its front.
-use Rattle.std.proofs.Common.{◌≡◌, ℕ, zero, suc, ◌+◌, ◌-◌, ◌<◌, ◌≤◌, Bool, true, false, cond, List, [], ◌∷◌, ◌++◌, length, take, drop, get_or, Some, None, refl, sym, ◌∙◌, ap, arith, append_assoc}
+use Rattle.std.proofs.Common.{◌≡◌, ℕ, zero, suc, ◌+◌, ◌<◌, ◌≤◌, Bool, true, false, cond, List, [], ◌∷◌, ◌++◌, length, take, drop, get_or, Some, None, refl, sym, ◌∙◌, ap, arith, append_assoc}
 use Rattle.std.proofs.lemmas.List.{drop_more, append-nil}
 use Rattle.qsr_lex.specs.Bytes.{is_lf}
 use Rattle.qsr_lex.specs.TextLines.{add_byte, text_lines, first_line_len, starts_with_end, outside, is_clean, clean_front, bad_line_from}
-use Rattle.qsr_lex.specs.Lexemes.{tail_len, kind_of}
+use Rattle.qsr_lex.specs.Lexemes.{tail_len}
 use Rattle.qsr_lex.specs.Tokens.{token_here, tokens_behind, tokens_of_lines}
 use Rattle.qsr_lex.specs.declared.tokens.Token.{Token}
 
@@ -43,6 +43,11 @@ pub tokens_behind-front : (line at : ℕ) (bs : List ℕ) → 0 < length bs → 
 tokens_behind-front line at [] h = absurd (omega arith)
 tokens_behind-front line at (b ∷ bs) h =
     ap (λ ts. token_here line at (b ∷ bs) ++ ts) (tokens_behind-skip line (at + 1) (tail_len (b ∷ bs)) bs ∙ behind_token line at (tail_len (b ∷ bs)) b bs)
+
+-- an LF is a line of its own
+pub add_byte-lf : (b : ℕ) (ls : List (List ℕ)) → is_lf b ≡ true → add_byte b ls ≡ (b ∷ []) ∷ ls
+add_byte-lf b [] h = refl
+add_byte-lf b (l ∷ ls) h = ap (λ c. cond c ((b ∷ []) ∷ l ∷ ls) ((b ∷ l) ∷ ls)) h
 
 -- the first line, and those behind it
 text_lines-byte : (c : Bool) (b n : ℕ) (bs : List ℕ) → text_lines bs ≡ take n bs ∷ text_lines (drop n bs)

@@ -1,12 +1,12 @@
 -- Tokens stand one behind the other, and the lines are as many as their ends.
-use Rattle.std.proofs.Common.{◌≡◌, ℕ, zero, suc, ◌+◌, ◌==◌, ◌&&◌, ◌<◌, ◌≤◌, Bool, true, false, not, cond, List, [], ◌∷◌, ◌++◌, length, count_by, subst, refl, sym, ap, ◌∙◌, arith}
+use Rattle.std.proofs.Common.{◌≡◌, ℕ, zero, suc, ◌+◌, ◌==◌, ◌&&◌, ◌<◌, ◌≤◌, Bool, true, false, not, cond, List, [], ◌∷◌, ◌++◌, length, subst, refl, sym, ap, ◌∙◌, arith}
 use Rattle.std.proofs.lemmas.List.Sums.{prefix_len-le-length, sum_by-cons}
 use Rattle.std.proofs.lemmas.List.{length-append}
 use Rattle.std.specs.List.{prefix_len, flat_map}
 use Rattle.qsr_lex.specs.Bytes.{is_lf, is_blank, is_word_byte}
-use Rattle.qsr_lex.specs.TextLines.{add_byte, text_lines, outside, line_count, lacks_last_lf}
+use Rattle.qsr_lex.specs.TextLines.{add_byte, text_lines, outside, line_count}
 use Rattle.qsr_lex.specs.Lexemes.{tail_len, kind_of, starts_with_colon}
-use Rattle.qsr_lex.specs.Tokens.{token_here, tokens_behind, tokens_of_lines, AreApart, tokens_of}
+use Rattle.qsr_lex.specs.Tokens.{tokens_behind, tokens_of_lines, AreApart, tokens_of}
 use Rattle.qsr_lex.specs.declared.tokens.Token.{Token}
 use Rattle.qsr_lex.proofs.Scanning.{length-outside-le}
 

@@ -1,5 +1,5 @@
 -- What the bytes of a line outside comments are cut into: blanks, which separate, and tokens.
-use Rattle.std.specs.Prelude.{ℕ, zero, suc, ◌+◌, List, [], ◌∷◌, ◌++◌, take, Bool, true, false, ◌&&◌, ◌==◌, if◌then◌else◌}
+use Rattle.std.specs.Prelude.{ℕ, zero, suc, List, [], ◌∷◌, ◌++◌, take, Bool, false, ◌&&◌, ◌==◌, if◌then◌else◌}
 use Rattle.std.specs.List.{prefix_len}
 use Rattle.qsr_lex.specs.Bytes.{is_blank, is_word_byte}
 use Rattle.qsr_lex.specs.declared.tokens.TokenKind.{TokenKind}

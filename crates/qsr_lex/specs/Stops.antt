@@ -1,5 +1,5 @@
 -- Why a text has no tokens.
-use Rattle.std.specs.Prelude.{◌≡◌, ℕ, List, Option, Some}
+use Rattle.std.specs.Prelude.{◌≡◌, ℕ, List, Some}
 use Rattle.qsr_lex.specs.TextLines.{bad_line}
 use Rattle.qsr_lex.specs.declared.tokens.LexStop.{LexStop}
 use Rattle.qsr_lex.specs.declared.tokens.LexStop.TheVariants.{BadByte, Memory}

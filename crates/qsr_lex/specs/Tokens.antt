@@ -1,5 +1,6 @@
 -- The tokens of a text, each with its line and its place.
-use Rattle.std.specs.Prelude.{ℕ, zero, suc, ◌+◌, ◌≤◌, ◌<◌, List, [], ◌∷◌, ◌++◌, length, if◌then◌else◌}
+use Rattle.std.specs.Prelude.{ℕ, zero, suc, ◌+◌, ◌≤◌, ◌<◌, List, [], ◌∷◌, ◌++◌, length, Bool, not, filter, slice_range, if◌then◌else◌}
+use Rattle.std.specs.List.{flat_map}
 use Rattle.qsr_lex.specs.Bytes.{is_blank}
 use Rattle.qsr_lex.specs.Lexemes.{tail_len, kind_of}
 use Rattle.qsr_lex.specs.TextLines.{text_lines, outside}
@@ -32,3 +33,15 @@ tokens_of bytes = tokens_of_lines 1 0 (text_lines bytes)
 abbrev pub AreApart : ℕ → List Token → ℕ → Type 0
 AreApart from [] to = Unit {0}
 AreApart from (t ∷ ts) to = (from ≤ t.start) × (t.start < t.end) × (t.end ≤ to) × AreApart t.end ts to
+
+-- the bytes of the tokens, one token behind the other
+abbrev pub token_bytes : List ℕ → List Token → List ℕ
+token_bytes bytes ts = flat_map (λ t. slice_range bytes t.start t.end) ts
+
+-- a byte that isn't a blank
+abbrev pub is_shown : ℕ → Bool
+is_shown b = not (is_blank b)
+
+-- the bytes of a text that stand outside comments, without the blanks
+abbrev pub shown_bytes : List ℕ → List ℕ
+shown_bytes bytes = filter is_shown (flat_map outside (text_lines bytes))

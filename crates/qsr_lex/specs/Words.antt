@@ -1,7 +1,8 @@
 -- What a reader finds at the front of a line's tokens.
-use Rattle.std.specs.Prelude.{ℕ, List, [], ◌∷◌, Bool, true, false, ◌&&◌, Option, Some, None, option_map, option_and_then, bytes_eq, if◌then◌else◌}
+use Rattle.std.specs.Prelude.{ℕ, List, [], ◌∷◌, Bool, true, false, ◌&&◌, Option, Some, None, option_map, option_and_then, bytes_eq, is_some, if◌then◌else◌}
 use Rattle.qsr_lex.specs.Lexemes.{Lexeme}
 use Rattle.qsr_lex.specs.Names.{is_name}
+use Rattle.qsr_lex.specs.TokenLines.{TokenLine}
 use Rattle.qsr_lex.specs.declared.tokens.TokenKind.{TokenKind}
 use Rattle.qsr_lex.specs.declared.tokens.TokenKind.TheVariants.{Word, Open, Close, Comma, Colon, Colons, Stop}
 
@@ -54,3 +55,8 @@ names_before_close (x ∷ xs) =
 -- a set at the front: names in brackets, and what stands behind them
 abbrev pub names_at : List Lexeme → Option (List (List ℕ) × List Lexeme)
 names_at xs = option_and_then names_before_close (behind_kind Open xs)
+
+-- the first of the lines begins with this word
+abbrev pub begins_with : List ℕ → List TokenLine → Bool
+begins_with text [] = false
+begins_with text (l ∷ ls) = is_some (behind_word text l.words)

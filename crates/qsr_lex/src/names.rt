@@ -1,5 +1,5 @@
 //! The words that may name something.
-ghost use Rattle.std.specs.Prelude.{◌≡◌};
+ghost use Rattle.std.specs.Prelude.{◌≡◌, true};
 ghost use Rattle.std.specs.List.{list_all};
 ghost use Rattle.qsr_lex.specs.Names.{is_name, is_name_byte, starts_with_digit, is_stop};
 
@@ -18,6 +18,17 @@ pub fn is_name(text: &[u8]) -> bool
         && are_name_bytes(text)
         && !starts_with_digit(text)
         && !is_stop(text)
+}
+
+/// A name as a text.
+pub fn name_text(name: &[u8]) -> &str
+    requires { is_name name.now ≡ true }
+    ensures { result.now ≡ name.now }
+{
+    match str::from_utf8(name) {
+        Ok(text) => text,
+        Err(_) => unreachable!(),
+    }
 }
 
 fn are_name_bytes(text: &[u8]) -> bool

@@ -17,7 +17,8 @@ pub fn printed_name_is_read_again()
 
 /// Names that are printed in brackets are read as these names.
 pub fn printed_set_is_read_again()
-    ensures { (names rest : List (List ℕ)) → list_all is_name names ≡ true → IsPrintedSet names rest }
+    ensures { (names rest : List (List ℕ)) →
+        list_all is_name names ≡ true → IsPrintedSet names rest }
 {}
 
 /// A number below 10 ^ 18 that is printed in decimal is one token, and read as that number.

@@ -1,9 +1,10 @@
 //! Reading a text line by line, and a line token by token.
-ghost use Rattle.std.specs.Prelude.{◌≡◌, ◌≤◌, ◌↔◌, length, slice_range, List, [], ◌∷◌, Some, None, MatchOption, MatchBool, IsTrue, IfOk, IsErrOf, map, ◌==◌};
+ghost use Rattle.std.specs.Prelude.{◌≡◌, ◌≤◌, ◌↔◌, length, [], ◌∷◌, Some, None, MatchOption, MatchBool, IsTrue, IfOk, IfSome, All, true, IsErrOf, map, ◌==◌};
 ghost use Rattle.std.specs.List.{prefix_len};
+ghost use Rattle.qsr_lex.specs.Names.{is_name};
 ghost use Rattle.qsr_lex.specs.Tokens.{AreApart};
 ghost use Rattle.qsr_lex.specs.TokenLines.{by_line, token_line, lexeme_of};
-ghost use Rattle.qsr_lex.specs.Words.{word_at, name_at, names_at, behind_kind, behind_word, is_same_kind, is_name_token, is_word_token};
+ghost use Rattle.qsr_lex.specs.Words.{word_at, name_at, names_at, begins_with, behind_kind, behind_word, is_same_kind, is_name_token, is_word_token};
 ghost use Rattle.qsr_lex.specs.declared.tokens.TokenKind.TheVariants.{Word};
 
 use crate::names::is_name;
@@ -34,6 +35,15 @@ pub struct WordReader<'a> {
     tokens: &'a [Token],
 }
 
+/// Why no names were read.
+#[derive(Clone, Copy, Debug, PartialEq, Eq)]
+pub enum NamesStop {
+    /// No names in brackets stand there.
+    Form,
+    /// Memory ran out.
+    Memory,
+}
+
 impl<'a> Model for LineReader<'a> {
     ghost use Rattle.std.specs.Prelude.{List, length};
     ghost use Rattle.qsr_lex.specs.TokenLines.{TokenLine, by_line, AreWithin};
@@ -58,7 +68,8 @@ impl<'a> Model for WordReader<'a> {
 }
 
 impl<'a> LineReader<'a> {
-    /// Before the first line of tokens of a text.
+    /// A reader in front of the first line of tokens that stand apart in a text, as those of
+    /// `readable` do.
     pub fn new(bytes: &'a [u8], tokens: &'a [Token]) -> Self
         requires { AreApart 0 tokens.now (length bytes.now) }
         ensures { result ≡ by_line bytes.now tokens.now }
@@ -66,7 +77,7 @@ impl<'a> LineReader<'a> {
         LineReader { bytes, tokens }
     }
 
-    /// The next line, and goes behind it.
+    /// Goes behind the next line that has tokens, and gives it.
     pub fn next_line(&mut self) -> Option<TextLine<'a>>
         ensures { MatchOption result ((self.old ≡ []) × (self.new ≡ []))
             (λ line. self.old ≡ token_line line.number line.words ∷ self.new) }
@@ -89,6 +100,18 @@ impl<'a> LineReader<'a> {
     }
 }
 
+impl<'a> LineReader<'a> {
+    /// Whether the next line begins with this word.
+    pub fn begins_with(&self, text: &[u8]) -> bool
+        ensures { result ≡ begins_with text.now self.now }
+    {
+        match self.tokens {
+            [] => false,
+            [first, ..] => is_word_token(self.bytes, first, text),
+        }
+    }
+}
+
 impl<'a> WordReader<'a> {
     /// Whether no token is left.
     pub fn is_empty(&self) -> bool
@@ -97,7 +120,7 @@ impl<'a> WordReader<'a> {
         self.tokens.is_empty()
     }
 
-    /// The next token's text where it is a word, and goes behind it.
+    /// Goes behind the next token where it is a word, and gives its text.
     pub fn word(&mut self) -> Option<&'a [u8]>
         ensures { MatchOption result ((word_at self.old ≡ None) × (self.new ≡ self.old))
             (λ text. word_at self.old ≡ Some (text.now, self.new)) }
@@ -111,10 +134,11 @@ impl<'a> WordReader<'a> {
         }
     }
 
-    /// The next token's text where it is a name, and goes behind it.
+    /// Goes behind the next token where it is a name, and gives its text.
     pub fn name(&mut self) -> Option<&'a [u8]>
-        ensures { MatchOption result ((name_at self.old ≡ None) × (self.new ≡ self.old))
+        ensures found { MatchOption result ((name_at self.old ≡ None) × (self.new ≡ self.old))
             (λ text. name_at self.old ≡ Some (text.now, self.new)) }
+        ensures is_name { IfSome result (λ text. is_name text.now ≡ true) }
     {
         match self.tokens {
             [first, behind @ ..] if is_name_token(self.bytes, first) => {
@@ -153,10 +177,12 @@ impl<'a> WordReader<'a> {
         }
     }
 
-    /// The names between brackets, and goes behind them. After an error the reader stands somewhere in the line.
+    /// Goes behind a set of names in brackets, and gives the names. After an error the reader
+    /// stands somewhere in the line.
     pub fn names(&mut self, alloc: Global) -> Result<Vec<&'a [u8]>, NamesStop>
         ensures names { IfOk result (λ names.
             names_at self.old ≡ Some (map (λ name. name.now) names.items, self.new)) }
+        ensures each { IfOk result (λ names. All (λ name. is_name name.now ≡ true) names.items) }
         ensures form { IsErrOf result NamesStop.Form → names_at self.old ≡ None }
     {
         if !self.take_kind(TokenKind::Open) {
@@ -201,13 +227,4 @@ fn run_len(tokens: &[Token], line: u32) -> usize
     ensures bound { result ≤ length tokens.now }
 {
     tokens.iter().take_while(|token| token.line == line).count()
-}
-
-/// Why no names were read.
-#[derive(Clone, Copy, Debug, PartialEq, Eq)]
-pub enum NamesStop {
-    /// No names in brackets stand there.
-    Form,
-    /// Memory ran out.
-    Memory,
 }

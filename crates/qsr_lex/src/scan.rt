@@ -5,7 +5,7 @@ ghost use Rattle.std.specs.List.{list_all, prefix_len};
 ghost use Rattle.qsr_lex.specs.Bytes.{is_allowed, is_word_byte};
 ghost use Rattle.qsr_lex.specs.TextLines.{line_count, first_line_len, starts_with_lf, starts_with_end, outside, bad_line, readable_text};
 ghost use Rattle.qsr_lex.specs.Lexemes.{starts_with_colon, tail_len, kind_of};
-ghost use Rattle.qsr_lex.specs.Tokens.{token_here, tokens_behind, tokens_of, AreApart};
+ghost use Rattle.qsr_lex.specs.Tokens.{token_here, tokens_behind, tokens_of, token_bytes, shown_bytes, AreApart};
 ghost use Rattle.qsr_lex.specs.TokenLines.{by_line, token_lines};
 ghost use Rattle.qsr_lex.specs.Stops.{IsStopOf};
 
@@ -21,7 +21,12 @@ pub fn lines(alloc: Global, bytes: &[u8]) -> Result<Lines, LexStop>
     ensures tokens { IfOk result (λ lines. lines.tokens.items ≡ tokens_of bytes.now) }
     // Each token is the slice from its start to its end, and none of these slices overlap.
     ensures apart { IfOk result (λ lines. AreApart 0 lines.tokens.items (length bytes.now)) }
-    ensures words { IfOk result (λ lines. by_line bytes.now lines.tokens.items ≡ token_lines bytes.now) }
+    // No byte is lost: the tokens have those that stand outside comments, without the blanks.
+    ensures shown { IfOk result (λ lines.
+        token_bytes bytes.now lines.tokens.items ≡ shown_bytes bytes.now) }
+    // Line by line, they are the tokens of the lines.
+    ensures words { IfOk result (λ lines.
+        by_line bytes.now lines.tokens.items ≡ token_lines bytes.now) }
     ensures count { IfOk result (λ lines. lines.count ≡ line_count bytes.now) }
 
     // The first line with such a byte is the one that is named.
@@ -42,9 +47,13 @@ pub fn lines(alloc: Global, bytes: &[u8]) -> Result<Lines, LexStop>
 /// allowed, and the number of that line. The only error is want of memory.
 pub fn readable(alloc: Global, bytes: &[u8]) -> Result<Readable, LexStop>
     requires { length bytes.now ≤ 16777216 }
-    ensures tokens { IfOk result (λ found. found.tokens.items ≡ tokens_of (readable_text bytes.now)) }
+    ensures tokens { IfOk result (λ found.
+        found.tokens.items ≡ tokens_of (readable_text bytes.now)) }
     ensures apart { IfOk result (λ found. AreApart 0 found.tokens.items (length bytes.now)) }
-    ensures words { IfOk result (λ found. by_line bytes.now found.tokens.items ≡ token_lines (readable_text bytes.now)) }
+    ensures shown { IfOk result (λ found.
+        token_bytes bytes.now found.tokens.items ≡ shown_bytes (readable_text bytes.now)) }
+    ensures words { IfOk result (λ found.
+        by_line bytes.now found.tokens.items ≡ token_lines (readable_text bytes.now)) }
     ensures count { IfOk result (λ found. found.count ≡ line_count (readable_text bytes.now)) }
     ensures bad_line { IfOk result (λ found. found.bad_line ≡ bad_line bytes.now) }
     ensures clean { OnOk result (bad_line (readable_text bytes.now) ≡ None) }
@@ -63,9 +72,8 @@ pub fn readable(alloc: Global, bytes: &[u8]) -> Result<Readable, LexStop>
                 bad_line: Some(count + 1),
             });
         }
-        add_tokens(&mut tokens, count + 1, bytes.len() - rest.len(), part).map_err(
-            |_| LexStop::Memory,
-        )?;
+        let start = bytes.len() - rest.len();
+        add_tokens(&mut tokens, count + 1, start, part).map_err(|_| LexStop::Memory)?;
         count += 1;
         rest = after;
     }
@@ -145,7 +153,8 @@ fn add_tokens(
     part: &[u8],
 ) -> Result<(), AllocError>
     requires { start + length part.now ≤ 16777216 }
-    ensures { OnOk result (tokens.new.items ≡ tokens.old.items ++ tokens_behind line start 0 part.now) }
+    ensures { OnOk result
+        (tokens.new.items ≡ tokens.old.items ++ tokens_behind line start 0 part.now) }
 {
     let mut rest = part;
     while !rest.is_empty() {
@@ -157,7 +166,8 @@ fn add_tokens(
     Ok(())
 }
 
-// Adds the token that begins with the first byte, if it is no blank, and says how many bytes it has.
+// Adds the token that begins with the first byte, if that is no blank, and says how many bytes it
+// has.
 fn add_token(
     tokens: &mut Vec<Token>,
     line: u32,
@@ -168,7 +178,8 @@ fn add_token(
     requires room { start + length bytes.now ≤ 16777216 }
     ensures taken { IfOk result (λ taken. taken ≡ 1 + tail_len bytes.now) }
     ensures bound { IfOk result (λ taken. taken ≤ length bytes.now) }
-    ensures added { OnOk result (tokens.new.items ≡ tokens.old.items ++ token_here line start bytes.now) }
+    ensures added { OnOk result
+        (tokens.new.items ≡ tokens.old.items ++ token_here line start bytes.now) }
 {
     let length = 1 + tail_len(bytes);
     if !is_blank(bytes[0]) {

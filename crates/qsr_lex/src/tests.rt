@@ -2,7 +2,8 @@
 ghost use Rattle.std.specs.Prelude.{◌≤◌, length};
 
 use crate::{
-    LexStop, LineReader, NamesStop, Token, TokenKind, is_name, lines, number, readable, signed,
+    LexStop, LineReader, NamesStop, Token, TokenKind, is_name, lines, name_text, number, readable,
+    signed,
 };
 use std::alloc::Global;
 use std::process::Abort;
@@ -98,9 +99,9 @@ fn a_line_is_read_word_by_word(rt: HostRuntime) -> Result<(), Fail> {
     assert!(rt; !line.words.take_word(b"name"));
     assert!(rt; line.words.take_word(b"names"));
     assert!(rt; line.words.take_kind(TokenKind::Open));
-    assert_eq!(rt; line.words.name().ok_or("a name")?, b"A");
+    assert_eq!(rt; name_text(line.words.name().ok_or("a name")?), "A");
     assert!(rt; line.words.name().is_none());
-    assert_eq!(rt; line.words.word().ok_or("a word")?, b"\"b");
+    assert_eq!(rt; line.words.word().ok_or("a word")?, b"\"b".as_slice());
     assert!(rt; line.words.take_kind(TokenKind::Close));
     assert!(rt; line.words.is_empty());
     assert_eq!(rt; rest.next_line().ok_or("a line")?.number, 3);

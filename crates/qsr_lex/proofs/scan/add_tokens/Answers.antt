@@ -1,4 +1,4 @@
-use Rattle.std.proofs.Common.{◌≡◌, ◌<◌, length, arith}
+use Rattle.std.proofs.Common.{◌<◌, length, arith}
 use Rattle.qsr_lex.proofs.Scanning.{line_tokens-step}
 use Rattle.qsr_lex.proofs.scan.add_tokens.Goals as goal
 

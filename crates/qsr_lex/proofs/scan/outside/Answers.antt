@@ -1,4 +1,3 @@
-use Rattle.std.proofs.Common.{◌≡◌, ◌∙◌, ap, take, length}
 use Rattle.qsr_lex.proofs.Scanning.{outside-take}
 use Rattle.qsr_lex.proofs.scan.outside.Goals as goal
 

@@ -43,6 +43,7 @@ returns-then-not-are_allowed c =
     record {
       tokens = is.tokens;
       apart = is.apart;
+      shown = is.shown;
       words = is.words;
       count = is.count;
       bad_line = sym (bad-here (c.loop-rest.count + 1) rest line some is_line bad) ∙ c.loop-rest.invariant.bad;
@@ -59,6 +60,7 @@ returns c =
     record {
       tokens = is.tokens;
       apart = is.apart;
+      shown = is.shown;
       words = is.words;
       count = is.count;
       bad_line = bad-end (c.loop-rest.count + 1) rest (grind (arith, c.is_empty.ensures, c.loop-rest-test.false)) ∙ c.loop-rest.invariant.bad;

@@ -1,5 +1,5 @@
-use Rattle.std.proofs.Common.{◌≡◌, ◌<◌, length, ap, ◌∙◌, sym, subst, refl, arith, rules}
-use Rattle.qsr_lex.specs.TokenLines.{by_line, AreWithin}
+use Rattle.std.proofs.Common.{length, ◌∙◌, sym, subst, refl}
+use Rattle.qsr_lex.specs.TokenLines.{AreWithin}
 use Rattle.qsr_lex.specs.declared.tokens.TokenKind.TheVariants.{Word}
 use Rattle.qsr_lex.proofs.ReadLines.{AreWithin-take, AreWithin-drop, by_line-front}
 use Rattle.qsr_lex.proofs.reading.LineReader.next_line.Goals as goal

@@ -1,0 +1,86 @@
+//! The forms of the lines of a network file.
+ghost use Rattle.std.specs.Prelude.{◌≡◌, map, IfOk, IsErrOf, MatchOption, Some, None};
+ghost use Rattle.network_file.specs.LineForms.{nodes_form, names_form, node_at, is_node_word, fact_form};
+
+use qsr_lex::{NamesStop, WordReader, is_name, number};
+use std::alloc::Global;
+
+/// The words of a fact's line: its two nodes, and the base relations of its set.
+#[derive(Drop)]
+pub(crate) struct FactWords<'a> {
+    pub first: &'a [u8],
+    pub second: &'a [u8],
+    pub set: Vec<&'a [u8]>,
+}
+
+/// The number of a line `nodes N`.
+pub(crate) fn nodes_form(words: &mut WordReader<'_>) -> Option<u64>
+    ensures { result ≡ nodes_form words.old }
+{
+    if !words.take_word(b"nodes") {
+        return None;
+    }
+    let nodes = number(words.word()?)?;
+    if words.is_empty() { Some(nodes) } else { None }
+}
+
+/// The names of a line `names ( A B .. )`, behind the word `names`, where there are so many.
+pub(crate) fn names_form<'a>(
+    alloc: Global,
+    count: u32,
+    words: &mut WordReader<'a>,
+) -> Result<Vec<&'a [u8]>, NamesStop>
+    ensures ok { IfOk result (λ names. names_form count words.old ≡ Some (map (λ name. name.now) names.items)) }
+    ensures form { IsErrOf result NamesStop.Form → names_form count words.old ≡ None }
+{
+    let names = words.names(alloc)?;
+    if names.len() == count as usize && words.is_empty() {
+        Ok(names)
+    } else {
+        Err(NamesStop::Form)
+    }
+}
+
+fn is_node_word(named: bool, word: &[u8]) -> bool
+    ensures { result ≡ is_node_word named word.now }
+{
+    number(word).is_some() || (named && is_name(word))
+}
+
+fn node_at<'a>(named: bool, words: &mut WordReader<'a>) -> Option<&'a [u8]>
+    ensures { MatchOption result (node_at named words.old ≡ None) (λ word. node_at named words.old ≡ Some (word.now, words.new)) }
+{
+    let word = words.word()?;
+    if is_node_word(named, word) {
+        Some(word)
+    } else {
+        None
+    }
+}
+
+/// The words of a line `I J ( R .. )`, where a node may be named if the nodes have names.
+pub(crate) fn fact_form<'a>(
+    alloc: Global,
+    named: bool,
+    words: &mut WordReader<'a>,
+) -> Result<FactWords<'a>, NamesStop>
+    ensures ok { IfOk result (λ found. fact_form named words.old ≡ Some (record {
+      first = found.first.now;
+      second = found.second.now;
+      set = map (λ name. name.now) found.set.items;
+    })) }
+    ensures form { IsErrOf result NamesStop.Form → fact_form named words.old ≡ None }
+{
+    let Some(first) = node_at(named, words) else {
+        return Err(NamesStop::Form);
+    };
+    let Some(second) = node_at(named, words) else {
+        return Err(NamesStop::Form);
+    };
+    let set = words.names(alloc)?;
+    if words.is_empty() {
+        Ok(FactWords { first, second, set })
+    } else {
+        Err(NamesStop::Form)
+    }
+}

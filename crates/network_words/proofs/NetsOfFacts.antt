@@ -1,0 +1,178 @@
+-- The net of facts, one fact after another, and that there is one net at most.
+use Rattle.std.proofs.Common.{◌≡◌, ◌≢◌, ℕ, ◌+◌, ◌<◌, ◌≤◌, Bool, true, false, cond, ◌&&◌, not, List, [], ◌∷◌, ◌++◌, length, drop, get_or, replicate, Some, None, refl, sym, ◌∙◌, ap, subst, arith, inl, inr, ◌↔◌}
+use Rattle.std.specs.Prelude.{bit_and, slice_index, slice_set, All, nat_lt, ◌==◌}
+use Rattle.std.specs.List.{AllByRecursion}
+use Rattle.std.proofs.lemmas.Bool.{cases_lt, cases_eq, lt-ltb, le-ltb, ltb-true, eqb-false}
+use Rattle.std.proofs.lemmas.List.{length-replicate, get_or-replicate, get_or-set_same, get_or-set_other}
+use Rattle.std.proofs.lemmas.List.Elements.{All-from_recursion, All-push, All-nil, All-cons, All-head, All-tail}
+use Rattle.std.proofs.lemmas.Grind.{same_number_lists}
+use Rattle.std.proofs.Math.ListN.{drop_of_length-le}
+use Rattle.calculus_table.specs.Rel.{Has, IsWithin}
+use Rattle.calculus_table.specs.Meaning.{Meaning}
+use Rattle.calculus_table.specs.Composition.{full_of, converse}
+use Rattle.calculus_table.proofs.Sets.{Has-meet, Has-meet_l, Has-meet_r, IsWithin-antisym}
+use Rattle.calculus_table.proofs.Compositions.{Has-full, full-member}
+use Rattle.network_words.specs.Edge.{edge_at, edge_count, IsProperPair}
+use Rattle.network_words.specs.Network.{met_at}
+use Rattle.network_words.specs.Facts.{Allows, IsNetOf, met_with}
+use Rattle.network_words.specs.NetFault.{first_fault}
+use Rattle.network_words.specs.declared.net.NetFault.TheVariants.{NoNode, SelfEdge}
+use Rattle.network_words.specs.declared.fact.Fact.{Fact}
+use Rattle.network_words.proofs.Edges.{EdgeOf, edge_of, edge_at-lt, edge_at-first, edge_at-second}
+use Rattle.network_words.proofs.Networks.{length-met_at}
+use Rattle.network_words.proofs.Meets.{length-met_with}
+
+-- ---- one net at most
+
+IsNetOf-within : (m : Meaning) (n : ℕ) (facts : List Fact) (xs ys : List ℕ) → IsNetOf m n facts xs → IsNetOf m n facts ys → (e : ℕ) → EdgeOf n e → IsWithin (slice_index xs e) (slice_index ys e)
+IsNetOf-within m n facts xs ys p q e edge =
+    let within : IsWithin (slice_index xs (edge_at n edge.first edge.second)) (slice_index ys (edge_at n edge.first edge.second)) =
+    record { each = λ t h. (q.members edge.first edge.second t edge.order edge.below).1 ((p.members edge.first edge.second t edge.order edge.below).0 h) } in
+    subst (λ d. IsWithin (slice_index xs d) (slice_index ys d)) edge.number within
+
+-- two lists of sets that are the net of the same facts are equal
+pub IsNetOf-unique : (m : Meaning) (n : ℕ) (facts : List Fact) (xs ys : List ℕ) → IsNetOf m n facts xs → IsNetOf m n facts ys → xs ≡ ys
+IsNetOf-unique m n facts xs ys p q =
+    same_number_lists xs ys (p.length_is ∙ sym q.length_is) (λ e b.
+    let edge : EdgeOf n e = edge_of n e (omega (arith, p.length_is)) in
+    IsWithin-antisym _ _ (IsNetOf-within m n facts xs ys p q e edge) (IsNetOf-within m n facts ys xs q p e edge))
+
+-- ---- the net of facts, fact by fact
+
+-- with no facts each set is full
+pub IsNetOf-none : (m : Meaning) (n : ℕ) → IsNetOf m n [] (replicate (edge_count n) (full_of m))
+IsNetOf-none m n = record {
+  length_is = length-replicate (edge_count n) (full_of m);
+  members = λ i j t o b.
+      let e : slice_index (replicate (edge_count n) (full_of m)) (edge_at n i j) ≡ full_of m = get_or-replicate (edge_count n) (edge_at n i j) (full_of m) 0 (edge_at-lt n i j o b) in
+      (λ h. (full-member m t (rw e at h), All-nil (Allows m i j t)), λ h. rw e (Has-full m t h.0));
+}
+
+-- a set with another met there
+met-same : (words : List ℕ) (e y : ℕ) → e < length words → slice_index (slice_set words e (bit_and (slice_index words e) y)) e ≡ bit_and (slice_index words e) y
+met-same words e y b = get_or-set_same words e (bit_and (slice_index words e) y) 0 b
+
+met-other : (words : List ℕ) (e y d : ℕ) → d ≢ e → slice_index (slice_set words e (bit_and (slice_index words e) y)) d ≡ slice_index words d
+met-other words e y d differ = get_or-set_other words e d (bit_and (slice_index words e) y) 0 differ
+
+-- y says of the edge from p to q what the fact allows there, and the fact says nothing of other edges
+record Speaks (m : Meaning) (n p q y a b t : ℕ) (f : Fact) : Type 0 where
+  pub here : p ≡ a → q ≡ b → Has y t → Allows m a b t f
+  pub back : p ≡ a → q ≡ b → Allows m a b t f → Has y t
+  pub other : (p ≡ a → q ≡ b → ⊥) → Allows m a b t f
+
+met-members : (m : Meaning) (n : ℕ) (words : List ℕ) (p q y a b t : ℕ) (f : Fact) → length words ≡ edge_count n → p < q → q < n → a < b → b < n → Speaks m n p q y a b t f →
+    Has (slice_index (slice_set words (edge_at n p q) (bit_and (slice_index words (edge_at n p q)) y)) (edge_at n a b)) t ↔ Has (slice_index words (edge_at n a b)) t × Allows m a b t f
+met-members m n words p q y a b t f l o e o' e' s = elim (cases_eq (edge_at n a b) (edge_at n p q)) [
+  | inl same ↦
+      (let first : p ≡ a = edge_at-first n p q a b o e o' e' (sym same) in
+      let second : q ≡ b = edge_at-second n p q a b o e o' e' (sym same) in
+      let inside : edge_at n p q < length words = omega (arith, edge_at-lt n p q o e) in
+      rw (same, met-same words (edge_at n p q) y inside)
+      (λ h. (Has-meet_l _ y t h, s.here first second (Has-meet_r _ y t h)), λ h. Has-meet _ y t h.0 (s.back first second h.1)))
+  | inr differ ↦
+      rw (met-other words (edge_at n p q) y (edge_at n a b) differ)
+      (λ h. (h, s.other (λ first second. differ (ap (λ x. edge_at n x b) (sym first) ∙ ap (edge_at n p) (sym second)))), λ h. h.0)
+]
+
+-- after a fact is met, the members are those that the fact allows too
+pub met_at-members : (m : Meaning) (n : ℕ) (words : List ℕ) (f : Fact) (a b t : ℕ) → length words ≡ edge_count n → IsProperPair n f.i f.j → a < b → b < n →
+    Has (slice_index (met_at m n words f.i f.j f.rel) (edge_at n a b)) t ↔ Has (slice_index words (edge_at n a b)) t × Allows m a b t f
+met_at-members m n words f a b t l p o e = elim (cases_lt f.i f.j) [
+  | inl up ↦ rw (lt-ltb f.i f.j up) (met-members m n words f.i f.j f.rel a b t f l up p.second_below o e (record {
+    here = λ first second h. record { straight = λ _ _. h; turned = λ x y. absurd (omega arith) };
+    back = λ first second allows. allows.straight first second;
+    other = λ elsewhere. record { straight = λ x y. absurd (elsewhere x y); turned = λ x y. absurd (omega arith) };
+  }))
+  | inr down ↦
+      (let differ : f.i ≢ f.j = p.differ in
+      let turned : f.j < f.i = omega arith in
+      rw (le-ltb f.i f.j down) (met-members m n words f.j f.i (converse m f.rel) a b t f l turned p.first_below o e (record {
+        here = λ first second h. record { straight = λ x y. absurd (omega arith); turned = λ _ _. h };
+        back = λ first second allows. allows.turned second first;
+        other = λ elsewhere. record { straight = λ x y. absurd (omega arith); turned = λ x y. absurd (elsewhere y x) };
+      })))
+]
+
+-- a fact of two different nodes
+pub record IsProperFact (n : ℕ) (f : Fact) : Type 0 where
+  pub pair : IsProperPair n f.i f.j
+
+pub met_with-members : (m : Meaning) (n a b t : ℕ) (fs : List Fact) (words : List ℕ) → length words ≡ edge_count n → AllByRecursion (IsProperFact n) fs → a < b → b < n →
+    Has (slice_index (met_with m n words fs) (edge_at n a b)) t ↔ Has (slice_index words (edge_at n a b)) t × All (Allows m a b t) fs
+met_with-members m n a b t [] words l p o e = (λ h. (h, All-nil (Allows m a b t)), λ h. h.0)
+met_with-members m n a b t (f ∷ fs) words l p o e =
+    let one = met_at-members m n words f a b t l p.0.pair o e in
+    let more = met_with-members m n a b t fs (met_at m n words f.i f.j f.rel) (length-met_at m n words f.i f.j f.rel ∙ l) p.1 o e in (
+      λ h. ((one.0 (more.0 h).0).0, All-cons (Allows m a b t) f fs (one.0 (more.0 h).0).1 (more.0 h).1),
+      λ h. more.1 (one.1 (h.0, All-head (Allows m a b t) f fs h.1), All-tail (Allows m a b t) f fs h.1),
+    )
+
+-- the full sets met with all facts are the net of the facts
+pub IsNetOf-met_with : (m : Meaning) (n : ℕ) (fs : List Fact) → AllByRecursion (IsProperFact n) fs → IsNetOf m n fs (met_with m n (replicate (edge_count n) (full_of m)) fs)
+IsNetOf-met_with m n fs p =
+    let start = IsNetOf-none m n in
+    record {
+      length_is = length-met_with m n (replicate (edge_count n) (full_of m)) fs ∙ start.length_is;
+      members = λ i j t o e.
+          let all = met_with-members m n i j t fs (replicate (edge_count n) (full_of m)) start.length_is p o e in (
+            λ h. (((start.members i j t o e).0 (all.0 h).0).0, (all.0 h).1),
+            λ h. all.1 ((start.members i j t o e).1 (h.0, All-nil (Allows m i j t)), h.1),
+          );
+    }
+
+-- one fact more behind the others
+pub met_with-push : (m : Meaning) (n : ℕ) (words : List ℕ) (fs : List Fact) (f : Fact) → met_with m n words (fs ++ f ∷ []) ≡ met_at m n (met_with m n words fs) f.i f.j f.rel
+met_with-push m n words [] f = refl
+met_with-push m n words (g ∷ fs) f = met_with-push m n (met_at m n words g.i g.j g.rel) fs f
+
+-- when every fact was met
+pub met_with-end : (m : Meaning) (n n' k : ℕ) (words words' : List ℕ) (fs : List Fact) → length fs ≤ k → met_with m n words (drop k fs) ≡ met_with m n' words' fs → words ≡ met_with m n' words' fs
+met_with-end m n n' k words words' fs h e = ap (met_with m n words) (sym (drop_of_length-le fs h)) ∙ e
+
+-- ---- facts without a fault
+
+proper_by : (n at : ℕ) (f : Fact) (fs : List Fact) (a b c : Bool) → (a ≡ true → f.i < n) → (b ≡ true → f.j < n) → (c ≡ false → f.i ≢ f.j) →
+    cond (not (a && b)) (Some (NoNode at)) (cond c (Some (SelfEdge at)) (first_fault n (at + 1) fs)) ≡ None → IsProperFact n f × (first_fault n (at + 1) fs ≡ None)
+proper_by n at f fs true true false p q r h = (record { pair = record { first_below = p refl; second_below = q refl; differ = r refl } }, h)
+proper_by n at f fs true true true p q r h = absurd (cc)
+proper_by n at f fs true false c p q r h = absurd (cc)
+proper_by n at f fs false b c p q r h = absurd (cc)
+
+-- facts without a fault are proper
+pub proper_facts : (n at : ℕ) (fs : List Fact) → first_fault n at fs ≡ None → AllByRecursion (IsProperFact n) fs
+proper_facts n at [] h = tt
+proper_facts n at (f ∷ fs) h =
+    let here = proper_by n at f fs (nat_lt f.i n) (nat_lt f.j n) (f.i == f.j) (ltb-true f.i n) (ltb-true f.j n) (eqb-false f.i f.j) h in
+    (here.0, proper_facts n (at + 1) fs here.1)
+
+pub proper_at : (n k : ℕ) (fs : List Fact) (f : Fact) → first_fault n 0 fs ≡ None → k < length fs → f ≡ get_or fs k f → IsProperPair n f.i f.j
+proper_at n k fs f h b e =
+    let here : IsProperFact n (get_or fs k f) = All-from_recursion (IsProperFact n) fs (proper_facts n 0 fs h) k f b in
+    (subst (IsProperFact n) (sym e) here).pair
+
+-- the full sets met with facts that have no fault are the net of the facts
+pub IsNetOf-sound : (m : Meaning) (n : ℕ) (old new : List ℕ) (fs : List Fact) → first_fault n 0 fs ≡ None → new ≡ met_with m n old fs → old ≡ replicate (edge_count n) (full_of m) → IsNetOf m n fs new
+IsNetOf-sound m n old new fs h e o = subst (IsNetOf m n fs) (sym (e ∙ ap (λ ws. met_with m n ws fs) o)) (IsNetOf-met_with m n fs (proper_facts n 0 fs h))
+
+-- ---- one fact more
+
+all-front : (P : Fact → Type 0) (fs : List Fact) (f : Fact) → All P (fs ++ f ∷ []) → All P fs
+all-front P [] f h = All-nil P
+all-front P (g ∷ fs) f h = All-cons P g fs (All-head P g (fs ++ f ∷ []) h) (all-front P fs f (All-tail P g (fs ++ f ∷ []) h))
+
+all-last : (P : Fact → Type 0) (fs : List Fact) (f : Fact) → All P (fs ++ f ∷ []) → P f
+all-last P [] f h = All-head P f [] h
+all-last P (g ∷ fs) f h = all-last P fs f (All-tail P g (fs ++ f ∷ []) h)
+
+-- the net of facts met with one more is the net of them all
+pub IsNetOf-push : (m : Meaning) (n : ℕ) (words : List ℕ) (fs : List Fact) (f : Fact) → IsProperPair n f.i f.j → IsNetOf m n fs words → IsNetOf m n (fs ++ f ∷ []) (met_at m n words f.i f.j f.rel)
+IsNetOf-push m n words fs f p w = record {
+  length_is = length-met_at m n words f.i f.j f.rel ∙ w.length_is;
+  members = λ i j t o e.
+      let one = met_at-members m n words f i j t w.length_is p o e in
+      let old = w.members i j t o e in (
+        λ h. ((old.0 (one.0 h).0).0, All-push (Allows m i j t) fs f (old.0 (one.0 h).0).1 (one.0 h).1),
+        λ h. one.1 (old.1 (h.0, all-front (Allows m i j t) fs f h.1), all-last (Allows m i j t) fs f h.1),
+      );
+}

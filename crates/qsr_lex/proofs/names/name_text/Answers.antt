@@ -1,0 +1,7 @@
+use Rattle.std.specs.Str.{IsUtf8}
+use Rattle.std.proofs.lemmas.Str.{IsUtf8-from_ascii}
+use Rattle.qsr_lex.proofs.PrintedNames.{IsAscii-name}
+use Rattle.qsr_lex.proofs.names.name_text.Goals as goal
+
+pub unreachable-requires : goal.unreachable-requires
+unreachable-requires c = c.in-Err.ensures.cases.0 (IsUtf8-from_ascii c.args.name.now (IsAscii-name c.args.name.now c.requires))

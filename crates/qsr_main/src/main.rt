@@ -1,0 +1,45 @@
+//! The program: the words, standard input and standard output, handed to the top call.
+#![tactic(auto)]
+
+mod streams;
+
+use std::env;
+use std::io;
+use std::process::ExitCode;
+use std::rt::Env;
+
+use qsr_outside::NoGate;
+use qsr_top::{Status, run};
+
+use streams::{NoShelf, StdSink, StdSource};
+
+/// The arguments behind the program's name.
+fn arguments(rt: &(impl Env + AllocGlobal)) -> io::Result<Vec<String>> {
+    let mut words = Vec::new(rt.alloc());
+    for word in env::args(rt)?.skip(1) {
+        words.push(word)?;
+    }
+    Ok(words)
+}
+
+fn main(rt: HostRuntime) -> ExitCode {
+    let words = match arguments(&rt) {
+        Ok(words) => words,
+        Err(error) if error.kind() == io::ErrorKind::OutOfMemory => {
+            return ExitCode::from(Status::Memory.code());
+        }
+        Err(_) => return ExitCode::from(Status::Usage.code()),
+    };
+    let mut shelf = NoShelf::new();
+    let mut source = StdSource::new(rt.stdin());
+    let mut sink = StdSink::new(rt.stdout());
+    let status = run(
+        rt.alloc(),
+        &words,
+        &mut shelf,
+        &mut source,
+        &mut sink,
+        &NoGate,
+    );
+    ExitCode::from(status.code())
+}

@@ -1,0 +1,116 @@
+use std::io::{Read, Stdin, Stdout, Write};
+
+use qsr_outside::{Failed, Shelf, Sink, Source};
+
+/// Standard input. It tells nothing of its bytes.
+#[derive(Debug, Drop)]
+pub(crate) struct StdSource {
+    input: Stdin,
+    given: u64,
+    faults: u64,
+}
+
+/// Standard output. It tells nothing of its bytes.
+#[derive(Debug, Drop)]
+pub(crate) struct StdSink {
+    output: Stdout,
+    faults: u64,
+}
+
+/// A shelf without documents, on which each opening fails.
+#[derive(Debug, Drop)]
+pub(crate) struct NoShelf {
+    faults: u64,
+}
+
+impl StdSource {
+    pub(crate) fn new(input: Stdin) -> StdSource {
+        StdSource {
+            input,
+            given: 0,
+            faults: 0,
+        }
+    }
+}
+
+impl StdSink {
+    pub(crate) fn new(output: Stdout) -> StdSink {
+        StdSink { output, faults: 0 }
+    }
+}
+
+impl NoShelf {
+    pub(crate) fn new() -> NoShelf {
+        NoShelf { faults: 0 }
+    }
+}
+
+impl Source for StdSource {
+    ghost use Rattle.std.specs.Prelude.{None};
+
+    ghost documents = { λ _. None };
+
+    ghost absent_openings = { λ _. 0 };
+
+    ghost left = { λ _. None };
+
+    ghost given = { λ s. s.given };
+
+    ghost faults = { λ s. s.faults };
+
+    fn read(&mut self, buf: &mut [u8]) -> Result<usize, Failed> {
+        match self.input.read(buf) {
+            Ok(n) => {
+                self.given = self.given.saturating_add(n as u64);
+                Ok(n)
+            }
+            Err(_) => {
+                self.faults = self.faults.saturating_add(1);
+                Err(Failed)
+            }
+        }
+    }
+}
+
+impl Sink for StdSink {
+    ghost use Rattle.std.specs.Prelude.{None};
+
+    ghost held = { λ _. None };
+
+    ghost faults = { λ s. s.faults };
+
+    fn write(&mut self, piece: &[u8]) -> Result<usize, Failed> {
+        match self.output.write(piece) {
+            Ok(n) if n > 0 || piece.is_empty() => Ok(n),
+            _ => {
+                self.faults = self.faults.saturating_add(1);
+                Err(Failed)
+            }
+        }
+    }
+}
+
+impl Source for NoShelf {
+    ghost use Rattle.std.specs.Prelude.{None};
+
+    ghost documents = { λ _. None };
+
+    ghost absent_openings = { λ _. 0 };
+
+    ghost left = { λ _. None };
+
+    ghost given = { λ _. 0 };
+
+    ghost faults = { λ s. s.faults };
+
+    fn read(&mut self, _buf: &mut [u8]) -> Result<usize, Failed> {
+        Ok(0)
+    }
+}
+
+impl Shelf for NoShelf {
+    fn open(&mut self, _name: &str) -> Result<(), Failed> {
+        self.faults = self.faults.saturating_add(1);
+        Err(Failed)
+    }
+}

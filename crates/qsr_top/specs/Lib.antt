@@ -1,0 +1,9 @@
+pub mod Code
+pub mod Reading
+pub mod Refusals
+pub mod Output
+pub mod Answers
+pub use Rattle.network_words.specs.Network
+pub use Rattle.network_words.specs.Closure
+pub use Rattle.network_words.specs.Facts
+pub use Rattle.network_file.specs.NetworkText

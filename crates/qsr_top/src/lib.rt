@@ -1,0 +1,19 @@
+//! The top call of the reasoner: from words and bytes to bytes and a status.
+#![tactic(auto)]
+
+mod answers;
+mod closing;
+mod commands;
+mod laws;
+mod reading;
+mod running;
+mod statuses;
+#[cfg(test)]
+mod tests;
+
+pub use laws::output_is_one;
+pub use running::run;
+pub use statuses::{Place, Status};
+
+/// The most bytes that a source may have.
+pub const SOURCE_LIMIT: usize = 16_777_216;
