@@ -1,1 +1,3 @@
 pub mod Narrowings
+pub mod Worklists
+pub mod Turns

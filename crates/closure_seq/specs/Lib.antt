@@ -1,1 +1,3 @@
 pub mod Narrowing
+pub mod Worklist
+pub mod ClosedBut

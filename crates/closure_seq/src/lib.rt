@@ -3,5 +3,7 @@
 
 mod closing;
 pub mod plain;
+mod work;
 
-pub use closing::close;
+pub use closing::{close, close_from, close_with};
+pub use work::Work;

@@ -22,27 +22,6 @@ pub and_r : (a b : Bool) → a && b ≡ true → b ≡ true
 and_r true b h = h
 and_r false b h = cc
 
--- a name is a text of ASCII bytes
-allowed-small : (b : ℕ) → is_allowed b ≡ true → b < 128
-allowed-small b h = grind (arith, nat_tests)
-
-name_byte-small : (b : ℕ) → is_name_byte b ≡ true → b < 128
-name_byte-small b h = allowed-small b (and_l (is_allowed b) (is_word_byte b) (and_l (is_allowed b && is_word_byte b) (not (b == 34 || b == 92)) h))
-
-name_bytes-small : (text : List ℕ) → list_all is_name_byte text ≡ true → (i : ℕ) → get_or text i 0 < 128
-name_bytes-small [] h i = lit< tt
-name_bytes-small (b ∷ bs) h zero = name_byte-small b (and_l (is_name_byte b) (list_all is_name_byte bs) h)
-name_bytes-small (b ∷ bs) h (suc i) = name_bytes-small bs (and_r (is_name_byte b) (list_all is_name_byte bs) h) i
-
-all_of_name : (text : List ℕ) → is_name text ≡ true → list_all is_name_byte text ≡ true
-all_of_name text h =
-    and_r (nat_le 1 (length text) && nat_le (length text) 64) (list_all is_name_byte text)
-    (and_l (nat_le 1 (length text) && nat_le (length text) 64 && list_all is_name_byte text) (not (starts_with_digit text))
-    (and_l (nat_le 1 (length text) && nat_le (length text) 64 && list_all is_name_byte text && not (starts_with_digit text)) (not (is_stop text)) h))
-
-pub IsUtf8-name : (text : List ℕ) → is_name text ≡ true → IsUtf8 text
-IsUtf8-name text h = IsUtf8-from_ascii text (name_bytes-small text (all_of_name text h))
-
 -- the names that were made, and those that are left
 pub owned-next : {A B : Type 0} (v : A → List ℕ) (w : B → List ℕ) (xs : List A) (texts : List B) (t : B) (k : ℕ) (d : A) → k < length xs
     → map w texts ≡ map v (take k xs) → w t ≡ v (get_or xs k d) → map w (texts ++ (t ∷ [])) ≡ map v (take (k + 1) xs)
@@ -56,7 +35,3 @@ all-tail test v (x ∷ xs) h = and_r (test (v x)) (list_all test (map v xs)) h
 pub all-next : {A : Type 0} (test : List ℕ → Bool) (v : A → List ℕ) (xs : List A) (k : ℕ)
     → list_all test (map v (drop k xs)) ≡ true → list_all test (map v (drop (k + 1) xs)) ≡ true
 all-next test v xs k h = sym (ap (λ ys. list_all test (map v ys)) (drop-drop 1 k xs)) ∙ all-tail test v (drop k xs) h
-
-pub ok_from_cases : {T E : Type 0} (r : Result T E) (P : T → Type 0) (Q : E → Type 0) → MatchResult r P Q → ((e : E) → Q e → ⊥) → IsOk r
-ok_from_cases (Ok x) P Q h k = search rules
-ok_from_cases (Err e) P Q h k = absurd (k e h)

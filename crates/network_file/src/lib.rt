@@ -6,6 +6,8 @@ mod fault;
 mod forms;
 mod names;
 mod reading;
+#[cfg(test)]
+mod tests;
 mod text_end;
 mod writing;
 

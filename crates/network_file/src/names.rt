@@ -4,14 +4,14 @@ ghost use Rattle.std.specs.List.{list_all};
 ghost use Rattle.std.specs.String.{string_bytes};
 ghost use Rattle.qsr_lex.specs.Names.{is_name};
 
+use qsr_lex::name_text;
 use std::alloc::{AllocError, Global};
 
 fn owned_name(alloc: Global, name: &[u8]) -> Result<String, AllocError>
     requires { is_name name.now ≡ true }
     ensures { IfOk result (λ text. string_bytes text ≡ name.now) }
 {
-    let text = str::from_utf8(name).unwrap();
-    String::from_str(alloc, text)
+    String::from_str(alloc, name_text(name))
 }
 
 /// Names as texts of their own.

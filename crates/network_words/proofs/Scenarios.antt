@@ -159,12 +159,12 @@ composition-empty_l m b k = empty-within _ (record {
   each = λ t h. let i : InComposition m 0 b t = composition-member m 0 b t k.table h in absurd (not_Has-empty i.first i.first_in);
 })
 
-converse-empty : (m : Meaning) → converse m 0 ≡ 0
+pub converse-empty : (m : Meaning) → converse m 0 ≡ 0
 converse-empty m = empty-within _ (record {
   each = λ t h. let i : InConverse m 0 t = converse-member m 0 t h in absurd (not_Has-empty i.base i.base_in);
 })
 
-turned-empty : (m : Meaning) (n : ℕ) (words : List ℕ) (i j : ℕ) → IsCalculus m → IsNetwork m n words → i ≢ j → set_at m n words i j ≡ 0 → set_at m n words j i ≡ 0
+pub turned-empty : (m : Meaning) (n : ℕ) (words : List ℕ) (i j : ℕ) → IsCalculus m → IsNetwork m n words → i ≢ j → set_at m n words i j ≡ 0 → set_at m n words j i ≡ 0
 turned-empty m n words i j k net d e = set_at-converse m n words i j k net d ∙ ap (converse m) e ∙ converse-empty m
 
 -- an empty set on the way empties the set along it

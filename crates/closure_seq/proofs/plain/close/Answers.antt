@@ -1,6 +1,6 @@
-use Rattle.std.proofs.Common.{◌≡◌, ◌||◌, subst}
+use Rattle.std.proofs.Common.{◌≡◌, subst}
 use Rattle.network_words.specs.Closure.{IsClosed}
-use Rattle.closure_seq.proofs.Narrowings.{IsNarrowing-trans, IsNarrowing-nodes, IsClosure-narrowed}
+use Rattle.closure_seq.proofs.Narrowings.{IsLessened-trans, IsLessened-nodes, IsClosure-lessened}
 use Rattle.closure_seq.proofs.plain.close.Goals as goal
 
 pub returns-clause-closure : goal.returns-clause-closure
@@ -10,7 +10,6 @@ returns-clause-closure g c =
     let b = c.loop.net in
     let after = c.sweep.new.net in
     let s = c.loop.invariant in
-    let nodes : b.nodes ≡ a.nodes = IsNarrowing-nodes m a b s.0 s.1 in
-    IsClosure-narrowed m a after (s.0 || c.sweep.result) c.requires
-    (IsNarrowing-trans m a b after s.0 c.sweep.result s.1 c.sweep.ensures.narrowed)
+    let nodes : b.nodes ≡ a.nodes = IsLessened-nodes m a b s in
+    IsClosure-lessened m a after c.requires (IsLessened-trans m a b after s c.sweep.ensures.narrowed.lessened)
     (subst (λ n. IsClosed m n after.words) nodes (c.sweep.ensures.closed c.loop-test.false))

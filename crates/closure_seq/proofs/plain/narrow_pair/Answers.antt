@@ -1,7 +1,7 @@
 use Rattle.std.proofs.Common.{◌≡◌, ℕ, List, refl, sym, subst}
 use Rattle.network_words.specs.Edge.{IsProperTriple}
 use Rattle.closure_seq.specs.Narrowing.{IsClosedAt}
-use Rattle.closure_seq.proofs.Narrowings.{IsSwept-skip, IsSwept-changed, IsSwept-unchanged, IsNarrowing-nodes}
+use Rattle.closure_seq.proofs.Narrowings.{IsSwept-skip, IsSwept-changed, IsSwept-unchanged, IsLessened-nodes}
 use Rattle.closure_seq.proofs.plain.narrow_pair.Goals as goal
 use Rattle.closure_seq.proofs.plain.narrow_pair.Goals.{then-j-i+then-j-k+then-narrow_triple, else-j-i, else-j-i-via-then-j-i+then-j-k+else-narrow_triple, else-j-i-via-then-j-i+else-j-k, else-j-i-via-else-j-i}
 
@@ -12,7 +12,7 @@ loop-j-preserved g c =
     let b = c.loop-j.net in
     let j = c.loop-j.j in
     let s = c.loop-j.invariant in
-    let nodes : b.nodes ≡ a.nodes = IsNarrowing-nodes m a b c.loop-j.changed s.sofar in
+    let nodes : b.nodes ≡ a.nodes = IsLessened-nodes m a b s.sofar.lessened in
     let P = λ (ws : List ℕ) (q : ℕ). IsProperTriple a.nodes c.args.i q c.args.k → IsClosedAt m a.nodes ws c.args.i q c.args.k in
     elim c.if-j-i.branch [
       | then-j-i+then-j-k+then-narrow_triple w ↦

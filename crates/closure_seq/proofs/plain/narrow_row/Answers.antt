@@ -1,11 +1,11 @@
 use Rattle.std.proofs.Common.{◌≡◌, ℕ, ◌<◌, List, refl, subst}
 use Rattle.closure_seq.specs.Narrowing.{IsPairClosed}
-use Rattle.closure_seq.proofs.Narrowings.{IsSwept-changed, IsSwept-unchanged, IsNetwork-narrowed, IsNarrowing-nodes}
+use Rattle.closure_seq.proofs.Narrowings.{IsSwept-changed, IsSwept-unchanged, IsNetwork-lessened, IsLessened-nodes}
 use Rattle.closure_seq.proofs.plain.narrow_row.Goals as goal
 use Rattle.closure_seq.proofs.plain.narrow_row.Goals.{then-narrow_pair, else-narrow_pair}
 
 pub narrow_pair-requires-clause-network : goal.narrow_pair-requires-clause-network
-narrow_pair-requires-clause-network g c = IsNetwork-narrowed _ _ _ _ c.requires.network c.loop-k.invariant.sofar
+narrow_pair-requires-clause-network g c = IsNetwork-lessened _ _ _ c.requires.network c.loop-k.invariant.sofar.lessened
 
 pub loop-k-preserved : goal.loop-k-preserved
 loop-k-preserved g c =
@@ -14,7 +14,7 @@ loop-k-preserved g c =
     let b = c.loop-k.net in
     let k = c.loop-k.k in
     let s = c.loop-k.invariant in
-    let nodes : b.nodes ≡ a.nodes = IsNarrowing-nodes m a b c.loop-k.changed s.sofar in
+    let nodes : b.nodes ≡ a.nodes = IsLessened-nodes m a b s.sofar.lessened in
     let after = c.narrow_pair.new.net in
     let P = λ (ws : List ℕ) (q : ℕ). c.args.i < q → q < a.nodes → IsPairClosed m a.nodes ws c.args.i q in
     elim c.if-narrow_pair.branch [

@@ -1,6 +1,6 @@
 use Rattle.std.proofs.Common.{◌≡◌, refl, subst, arith}
 use Rattle.closure_seq.specs.Narrowing.{IsRowClosed}
-use Rattle.closure_seq.proofs.Narrowings.{IsSwept-changed, IsSwept-unchanged, IsNarrowing-nodes, IsNetwork-within, IsClosed-rows}
+use Rattle.closure_seq.proofs.Narrowings.{IsSwept-changed, IsSwept-unchanged, IsLessened-nodes, IsNetwork-within, IsClosed-rows}
 use Rattle.closure_seq.proofs.plain.sweep.Goals as goal
 use Rattle.closure_seq.proofs.plain.sweep.Goals.{then-narrow_row, else-narrow_row}
 
@@ -11,7 +11,7 @@ loop-i-preserved g c =
     let b = c.loop-i.net in
     let i = c.loop-i.i in
     let s = c.loop-i.invariant in
-    let nodes : b.nodes ≡ a.nodes = IsNarrowing-nodes m a b c.loop-i.changed s.sofar in
+    let nodes : b.nodes ≡ a.nodes = IsLessened-nodes m a b s.sofar.lessened in
     let after = c.narrow_row.new.net in
     elim c.if-narrow_row.branch [
       | then-narrow_row w ↦ rw w.changed-is (IsSwept-changed m a b after c.loop-i.changed (IsRowClosed m a.nodes) i s w.if-narrow_row.ensures.narrowed)
@@ -26,5 +26,5 @@ returns-clause-closed g c = λ e.
     let net = c.args.net.now in
     let s = c.loop-i.invariant in
     IsClosed-rows m net.nodes c.loop-i.net.words c.size-bases.ensures.calculus
-    (IsNetwork-within m net.nodes c.loop-i.net.words net.words c.requires s.sofar.length_is s.sofar.within)
+    (IsNetwork-within m net.nodes c.loop-i.net.words net.words c.requires s.sofar.lessened.length_is s.sofar.lessened.within)
     (λ i h. s.closed e i (omega arith))

@@ -1,7 +1,7 @@
 use Rattle.std.proofs.Common.{◌≡◌}
 use Rattle.std.specs.Str.{IsUtf8, IsValidUpTo, valid_up_to}
-use Rattle.network_file.proofs.NamesRead.{IsUtf8-name, ok_from_cases}
-use Rattle.network_file.proofs.names.owned_name.Goals as goal
+use Rattle.calculus_load.proofs.NamesRead.{IsUtf8-name, ok_from_cases}
+use Rattle.calculus_load.proofs.names.owned_name.Goals as goal
 
 pub unwrap-text-requires : goal.unwrap-text-requires
 unwrap-text-requires c =

@@ -1,0 +1,70 @@
+-- The forms of the lines of a table file.
+use Rattle.std.specs.Prelude.{ℕ, ◌-◌, ◌^◌, ◌<◌, List, [], ◌∷◌, Bool, true, false, Option, Some, None, option_and_then, IfSome, codes}
+use Rattle.qsr_lex.specs.Lexemes.{Lexeme}
+use Rattle.qsr_lex.specs.Words.{name_at, names_at, behind_kind, behind_word}
+use Rattle.qsr_lex.specs.declared.tokens.TokenKind.TheVariants.{Colon, Colons, Stop}
+use Rattle.calculus_table.specs.Rel.{IsWithin}
+use Rattle.calculus_load.specs.Names.{base_of, set_of}
+use Rattle.calculus_load.specs.declared.statement.Statement.{Statement}
+use Rattle.calculus_load.specs.declared.statement.Statement.TheVariants.{Converse, Entry}
+
+infixl 10 ◌>>=◌
+abbrev pub ◌>>=◌ : {A B : Type 0} → Option A → (A → Option B) → Option B
+o >>= f = option_and_then f o
+
+-- this, where nothing stands behind it in the line
+abbrev pub at_end : {A : Type 0} → A → List Lexeme → Option A
+at_end a [] = Some a
+at_end a (x ∷ xs) = None
+
+-- these names, where there is one
+abbrev pub some_names : List (List ℕ) → Option (List (List ℕ))
+some_names [] = None
+some_names (name ∷ names) = Some (name ∷ names)
+
+-- `names ( N1 N2 .. Nn )`
+abbrev pub names_line : List Lexeme → Option (List (List ℕ))
+names_line words = behind_word (codes "names") words >>= λ rest. names_at rest >>= λ found. at_end found.0 found.1 >>= some_names
+
+-- `identity N`
+abbrev pub identity_line : List Lexeme → Option (List ℕ)
+identity_line words = behind_word (codes "identity") words >>= λ rest. name_at rest >>= λ found. at_end found.0 found.1
+
+-- `A :: B`: the converse of A is B
+abbrev pub behind_colons : List (List ℕ) → Option ℕ → List Lexeme → Option Statement
+behind_colons names first words = name_at words >>= λ second. at_end (Converse first (base_of names second.0)) second.1
+
+abbrev pub converse_line : List (List ℕ) → List Lexeme → Option Statement
+converse_line names words = name_at words >>= λ first. behind_kind Colons first.1 >>= behind_colons names (base_of names first.0)
+
+-- `A : B :: ( C D .. )`: the composition of A and B is the set of C, D, ..
+abbrev pub behind_colon : List (List ℕ) → Option ℕ → List Lexeme → Option Statement
+behind_colon names first words =
+    name_at words >>= λ second. behind_kind Colons second.1 >>= λ rest. names_at rest >>= λ found.
+    at_end (Entry first (base_of names second.0) (set_of names found.0)) found.1
+
+abbrev pub entry_line : List (List ℕ) → List Lexeme → Option Statement
+entry_line names words = name_at words >>= λ first. behind_kind Colon first.1 >>= behind_colon names (base_of names first.0)
+
+-- either of the two
+abbrev pub or_else : {A : Type 0} → Option A → Option A → Option A
+or_else (Some a) other = Some a
+or_else None other = other
+
+abbrev pub statement_line : List (List ℕ) → List Lexeme → Option Statement
+statement_line names words = or_else (converse_line names words) (entry_line names words)
+
+-- the numbers of the statement are below n, and so are the members of its set
+abbrev pub IsBoundedBy : ℕ → Statement → Type 0
+IsBoundedBy n (Converse a b) = IfSome a (λ a. a < n) × IfSome b (λ b. b < n)
+IsBoundedBy n (Entry a b set) = IfSome a (λ a. a < n) × IfSome b (λ b. b < n) × IfSome set (λ set. IsWithin set (2 ^ n - 1))
+
+-- nothing stands behind what was found
+abbrev pub ends_there : Option (List Lexeme) → Bool
+ends_there (Some []) = true
+ends_there (Some (x ∷ xs)) = false
+ends_there None = false
+
+-- `.` alone
+abbrev pub is_end_line : List Lexeme → Bool
+is_end_line words = ends_there (behind_kind Stop words)

@@ -1,0 +1,138 @@
+ghost use Rattle.std.specs.Prelude.{◌≡◌, ◌<◌, ◌++◌, codes, OnOk, IfOk};
+ghost use Rattle.std.specs.String.{string_bytes};
+ghost use Rattle.calculus_load.specs.TableText.{text_below, member_text, names_text, identity_text, converse_text, entry_text, row_text, table_text};
+ghost use Rattle.calculus_table.specs.Meaning.{converse_at, entry_at};
+
+use calculus_table::{Calculus, Compose, Memory, Rel};
+use std::alloc::{AllocError, Global};
+
+/// Appends the line of the names.
+fn push_names(text: &mut String, c: &Calculus) -> Result<(), AllocError>
+    ensures { OnOk result (string_bytes text.new ≡ string_bytes text.old ++ names_text c.now) }
+{
+    text.push_str("names ( ")?;
+    for r in 0..c.size() {
+        write!(text, "{} ", c.name(r))?;
+    }
+    text.push_str(")\n")?;
+    Ok(())
+}
+
+/// Appends the line of the identity.
+fn push_identity(text: &mut String, c: &Calculus) -> Result<(), AllocError>
+    ensures { OnOk result (string_bytes text.new ≡ string_bytes text.old ++ identity_text c.now) }
+{
+    let _size = c.size();
+    writeln!(text, "identity {}", c.name(c.identity()))?;
+    Ok(())
+}
+
+/// The converse of a base relation.
+fn converse_of(c: &Calculus, r: u32) -> u32
+    requires { r < c.now.meaning.size }
+    ensures value { result ≡ converse_at c.now.meaning r }
+    ensures below { result < c.now.meaning.size }
+{
+    let _size = c.size();
+    c.converse(Rel::single(r)).word().trailing_zeros()
+}
+
+/// The composition of two base relations.
+fn composition_of(c: &Calculus, r: u32, s: u32) -> Rel
+    requires first { r < c.now.meaning.size }
+    requires second { s < c.now.meaning.size }
+    ensures { result ≡ entry_at c.now.meaning r s }
+{
+    let _size = c.size();
+    c.compose(Rel::single(r), Rel::single(s))
+}
+
+/// Appends the line of the converse of `r`.
+fn push_converse(text: &mut String, c: &Calculus, r: u32) -> Result<(), AllocError>
+    requires { r < c.now.meaning.size }
+    ensures { OnOk result (string_bytes text.new ≡ string_bytes text.old ++ converse_text c.now r) }
+{
+    let converse = converse_of(c, r);
+    writeln!(text, "{} :: {}", c.name(r), c.name(converse))?;
+    Ok(())
+}
+
+/// Appends the name of `r`, where it is a member of the set.
+fn push_member(text: &mut String, c: &Calculus, set: Rel, r: u32) -> Result<(), AllocError>
+    requires { r < c.now.meaning.size }
+    ensures { OnOk result (string_bytes text.new ≡ string_bytes text.old ++ member_text c.now set r) }
+{
+    if set.has(r) {
+        write!(text, "{} ", c.name(r))?;
+    }
+    Ok(())
+}
+
+/// Appends the line of the composition of `r` and `s`.
+fn push_entry(text: &mut String, c: &Calculus, r: u32, s: u32) -> Result<(), AllocError>
+    requires first { r < c.now.meaning.size }
+    requires second { s < c.now.meaning.size }
+    ensures { OnOk result (string_bytes text.new ≡ string_bytes text.old ++ entry_text c.now r s) }
+{
+    let set = composition_of(c, r, s);
+    write!(text, "{} : {} :: ( ", c.name(r), c.name(s))?;
+    for t in 0..c.size() {
+        push_member(text, c, set, t)?;
+    }
+    text.push_str(")\n")?;
+    Ok(())
+}
+
+/// Appends the lines of the compositions of `r`.
+fn push_row(text: &mut String, c: &Calculus, r: u32) -> Result<(), AllocError>
+    requires { r < c.now.meaning.size }
+    ensures { OnOk result (string_bytes text.new ≡ string_bytes text.old ++ row_text c.now r) }
+{
+    for s in 0..c.size() {
+        push_entry(text, c, r, s)?;
+    }
+    Ok(())
+}
+
+/// Appends the lines of the converses.
+fn push_converses(text: &mut String, c: &Calculus) -> Result<(), AllocError>
+    ensures { OnOk result (string_bytes text.new ≡ string_bytes text.old ++ text_below c.now.meaning.size (converse_text c.now)) }
+{
+    for r in 0..c.size() {
+        push_converse(text, c, r)?;
+    }
+    Ok(())
+}
+
+/// Appends the lines of the compositions.
+fn push_entries(text: &mut String, c: &Calculus) -> Result<(), AllocError>
+    ensures { OnOk result (string_bytes text.new ≡ string_bytes text.old ++ text_below c.now.meaning.size (row_text c.now)) }
+{
+    for r in 0..c.size() {
+        push_row(text, c, r)?;
+    }
+    Ok(())
+}
+
+/// Appends the whole table file.
+fn push_table(text: &mut String, c: &Calculus) -> Result<(), AllocError>
+    ensures { OnOk result (string_bytes text.new ≡ string_bytes text.old ++ table_text c.now) }
+{
+    push_names(text, c)?;
+    push_identity(text, c)?;
+    push_converses(text, c)?;
+    push_entries(text, c)?;
+    text.push_str(".\n")?;
+    Ok(())
+}
+
+/// The canonical table file of a calculus, whose names are words that may name something.
+pub fn text(alloc: Global, c: &Calculus) -> Result<String, Memory>
+    ensures { IfOk result (λ text. string_bytes text ≡ table_text c.now) }
+{
+    let mut text = String::new(alloc);
+    match push_table(&mut text, c) {
+        Ok(()) => Ok(text),
+        Err(_) => Err(Memory),
+    }
+}

@@ -1,0 +1,231 @@
+-- What every machine keeps: an allowed event leaves sets for each edge, proper facts, and the sum of the weights.
+use Rattle.std.proofs.Common.{◌≡◌, ◌≢◌, ℕ, zero, suc, ◌+◌, ◌-◌, ◌<◌, ◌≤◌, Bool, true, false, cond, List, [], ◌∷◌, ◌++◌, length, get_or, set, refl, sym, ◌∙◌, ap, subst, arith, ◌⊎◌, inl, inr, Some, None, length-append}
+use Rattle.std.specs.Prelude.{bit_and, slice_get, slice_index, slice_set, IsTrue}
+use Rattle.std.specs.List.{All, sum_by}
+use Rattle.std.proofs.lemmas.List.{length-set}
+use Rattle.std.proofs.lemmas.List.Sums.{sum_by-set, sum_by-append}
+use Rattle.std.proofs.lemmas.Option.{slice_get_within, get_or_from_slice_get}
+use Rattle.calculus_table.specs.Rel.{IsWithin}
+use Rattle.calculus_table.specs.Meaning.{Meaning}
+use Rattle.calculus_table.specs.Composition.{full_of, composition}
+use Rattle.network_words.specs.declared.fact.Fact.{Fact}
+use Rattle.network_words.specs.Edge.{edge_count}
+use Rattle.network_words.specs.Network.{Network, AreWithin, IsNetwork, met_at, set_at}
+use Rattle.network_words.proofs.Networks.{AreWithin-refl, AreWithin-trans, length-met_at, met_at-within}
+use Rattle.narrow_core.specs.declared.event.Event.{Event}
+use Rattle.narrow_core.specs.declared.event.Event.TheVariants.{Assert, Read, Narrow, Split, Join}
+use Rattle.narrow_core.specs.Actor.{ActorState, IsLiveAt, EachLive, live_weight, fresh, seeing, stating, giving, joining, spent, met_words}
+use Rattle.narrow_core.specs.Machine.{CoreState, AreSets, IsProperFact, IsProperActor, AreWeighed, IsCore, opened}
+use Rattle.narrow_core.specs.Event.{edge_between, IsAllowed, IsStep, HasLive, MayAssert, MayRead, MayNarrow, MaySplit, MayJoin, Asserts, Reads, Narrows, Splits, Joins}
+use Rattle.narrow_core.proofs.Places.{get-set, get-set_same, get-set_other, get-last, get-more, All-more, All-none}
+use Rattle.std.proofs.lemmas.List.Elements.{All-append}
+use Rattle.narrow_core.proofs.Sights.{length-seen, seen-within, length-met, met-within_l, AreSets-less}
+
+-- ---- two readings of one place
+
+pub same_actor : (actors : List ActorState) (k : ℕ) (a b : ActorState) → slice_get actors k ≡ Some a → slice_get actors k ≡ Some b → a ≡ b
+same_actor actors k a b p q = let e : Some a ≡ Some b = sym p ∙ q in cc
+
+pub live_here : (s : CoreState) (k : ℕ) (a : ActorState) → HasLive s k → slice_get s.actors k ≡ Some a → IsLiveAt s.actors k a
+live_here s k a h e =
+    let same : h.actor ≡ a = same_actor s.actors k h.actor a h.live.is_there e in
+    record { is_there = e; is_live = subst (λ (x : ActorState). IsTrue x.is_live) same h.live.is_live }
+
+-- ---- the live actors after a change
+
+-- each live actor after an actor was changed is one that was live before, or the changed one
+pub live-set : (actors : List ActorState) (k : ℕ) (a : ActorState) (P : ActorState → Type 0) → (IsTrue a.is_live → P a) →
+    ((j : ℕ) (b : ActorState) → j ≢ k → IsLiveAt actors j b → P b) → EachLive (set actors k a) P
+live-set actors k a P here there j b l = elim (get-set actors k j a b l.is_there) [
+  | inl t ↦ subst P t.1 (here (subst (λ (x : ActorState). IsTrue x.is_live) (sym t.1) l.is_live))
+  | inr t ↦ there j b t.0 (record { is_there = t.1; is_live = l.is_live })
+]
+
+pub live-more : (actors : List ActorState) (a : ActorState) (P : ActorState → Type 0) → EachLive actors P → P a → EachLive (actors ++ a ∷ []) P
+live-more actors a P all here j b l = elim (get-last actors j a b l.is_there) [
+  | inl t ↦ all j b (record { is_there = t; is_live = l.is_live })
+  | inr t ↦ subst P t.1 here
+]
+
+-- ---- weights
+
+live_weight-live : (a : ActorState) → IsTrue a.is_live → live_weight a ≡ a.weight
+live_weight-live a h = ap (λ b. cond b a.weight 0) h
+
+-- the sum after an actor was changed
+pub weights-set : (actors : List ActorState) (k : ℕ) (a b : ActorState) → slice_get actors k ≡ Some a →
+    sum_by live_weight (set actors k b) + live_weight a ≡ sum_by live_weight actors + live_weight b
+weights-set actors k a b e = let s = sum_by-set live_weight actors k b a (slice_get_within actors k a e) in rw (get_or_from_slice_get actors k a a e) at s
+
+pub weights-same : (w : ℕ) (actors : List ActorState) (k : ℕ) (a b : ActorState) → slice_get actors k ≡ Some a → b.is_live ≡ a.is_live → b.weight ≡ a.weight →
+    AreWeighed w actors → AreWeighed w (set actors k b)
+weights-same w actors k a b e l q h = record {
+  some = live-set actors k b (λ x. 0 < x.weight)
+      (λ t. subst (λ x. 0 < x) (sym q) (h.some k a (record { is_there = e; is_live = sym l ∙ t })))
+      (λ j x n t. h.some j x t);
+  sum =
+      let same : live_weight b ≡ live_weight a = cc in
+      omega (arith, weights-set actors k a b e, h.sum);
+}
+
+pub weights-split : (w : ℕ) (actors : List ActorState) (k left : ℕ) (a : ActorState) (seen : List ℕ) → IsLiveAt actors k a → 0 < left → left < a.weight →
+    AreWeighed w actors → AreWeighed w (set actors k (giving left a) ++ fresh left seen ∷ [])
+weights-split w actors k left a seen l p q h = record {
+  some = live-more (set actors k (giving left a)) (fresh left seen) (λ x. 0 < x.weight)
+      (live-set actors k (giving left a) (λ x. 0 < x.weight) (λ t. omega arith) (λ j x n t. h.some j x t))
+      p;
+  sum =
+      let one : live_weight a ≡ a.weight = live_weight-live a l.is_live in
+      let two : live_weight (giving left a) ≡ a.weight - left = live_weight-live (giving left a) l.is_live in
+      let s = weights-set actors k a (giving left a) l.is_there in
+      let t = sum_by-append live_weight (set actors k (giving left a)) (fresh left seen ∷ []) in
+      omega (arith, s, t, one, two, h.sum);
+}
+
+pub weights-join : (w : ℕ) (actors : List ActorState) (k l : ℕ) (a b : ActorState) → k ≢ l → IsLiveAt actors k a → IsLiveAt actors l b →
+    AreWeighed w actors → AreWeighed w (set (set actors k (joining a b)) l (spent b))
+weights-join w actors k l a b d p q h = record {
+  some = live-set (set actors k (joining a b)) l (spent b) (λ x. 0 < x.weight) (λ t. absurd (cc))
+      (λ j x n t. live-set actors k (joining a b) (λ y. 0 < y.weight)
+      (λ u. let s = h.some k a p in omega arith)
+      (λ i y o u. h.some i y u) j x t);
+  sum =
+      let there : slice_get (set actors k (joining a b)) l ≡ Some b = get-set_other actors k l (joining a b) (λ e. d (sym e)) ∙ q.is_there in
+      let one : live_weight a ≡ a.weight = live_weight-live a p.is_live in
+      let two : live_weight b ≡ b.weight = live_weight-live b q.is_live in
+      let both : live_weight (joining a b) ≡ a.weight + b.weight = live_weight-live (joining a b) p.is_live in
+      let s = weights-set actors k a (joining a b) p.is_there in
+      let t = weights-set (set actors k (joining a b)) l b (spent b) there in
+      omega (arith, s, t, one, two, both, h.sum);
+}
+
+-- two live actors have no more weight than all
+pub weights-two : (w : ℕ) (actors : List ActorState) (k l : ℕ) (a b : ActorState) → k ≢ l → IsLiveAt actors k a → IsLiveAt actors l b →
+    AreWeighed w actors → a.weight + b.weight ≤ w
+weights-two w actors k l a b d p q h =
+    let there : slice_get (set actors k (spent a)) l ≡ Some b = get-set_other actors k l (spent a) (λ e. d (sym e)) ∙ q.is_there in
+    let one : live_weight a ≡ a.weight = live_weight-live a p.is_live in
+    let two : live_weight b ≡ b.weight = live_weight-live b q.is_live in
+    let s = weights-set actors k a (spent a) p.is_there in
+    let t = weights-set (set actors k (spent a)) l b (spent b) there in
+    omega (arith, s, t, one, two, h.sum)
+
+-- ---- proper actors
+
+pub actors-set : (P : ActorState → Type 0) (actors : List ActorState) (k : ℕ) (a : ActorState) → ((j : ℕ) (b : ActorState) → slice_get actors j ≡ Some b → P b) → P a →
+    (j : ℕ) (b : ActorState) → slice_get (set actors k a) j ≡ Some b → P b
+actors-set P actors k a all here j b e = elim (get-set actors k j a b e) [
+  | inl t ↦ subst P t.1 here
+  | inr t ↦ all j b t.1
+]
+
+pub actors-more : (P : ActorState → Type 0) (actors : List ActorState) (a : ActorState) → ((j : ℕ) (b : ActorState) → slice_get actors j ≡ Some b → P b) → P a →
+    (j : ℕ) (b : ActorState) → slice_get (actors ++ a ∷ []) j ≡ Some b → P b
+actors-more P actors a all here j b e = elim (get-last actors j a b e) [
+  | inl t ↦ all j b t
+  | inr t ↦ subst P t.1 here
+]
+
+proper-seeing : (n full e x : ℕ) (a : ActorState) → IsProperActor n full a → IsProperActor n full (seeing e x a)
+proper-seeing n full e x a p = record { seen = AreSets-less n full a.seen _ p.seen (length-seen a.seen e x) (seen-within a.seen e x); facts = p.facts }
+
+proper-stating : (n full : ℕ) (fact : Fact) (a : ActorState) → IsProperActor n full a → IsProperFact n full fact → IsProperActor n full (stating fact a)
+proper-stating n full fact a p f = record { seen = p.seen; facts = All-more (IsProperFact n full) a.mine fact p.facts f }
+
+proper-giving : (n full left : ℕ) (a : ActorState) → IsProperActor n full a → IsProperActor n full (giving left a)
+proper-giving n full left a p = record { seen = p.seen; facts = p.facts }
+
+proper-fresh : (n full weight : ℕ) (seen : List ℕ) → AreSets n full seen → IsProperActor n full (fresh weight seen)
+proper-fresh n full weight seen p = record { seen = p; facts = All-none (IsProperFact n full) }
+
+proper-joining : (n full : ℕ) (a b : ActorState) → IsProperActor n full a → IsProperActor n full b → IsProperActor n full (joining a b)
+proper-joining n full a b p q = record {
+  seen = AreSets-less n full a.seen _ p.seen (length-met a.seen b.seen (p.seen.length_is ∙ sym q.seen.length_is)) (met-within_l a.seen b.seen);
+  facts = All-append (IsProperFact n full) a.mine b.mine p.facts q.facts;
+}
+
+proper-spent : (n full : ℕ) (a : ActorState) → IsProperActor n full a → IsProperActor n full (spent a)
+proper-spent n full a p = record { seen = p.seen; facts = p.facts }
+
+-- ---- every machine
+
+-- one actor with its weight and some words were changed
+core-moved : (s : CoreState) (words : List ℕ) (k : ℕ) (a b : ActorState) → IsCore s → slice_get s.actors k ≡ Some a → length words ≡ length s.words → AreWithin words s.words →
+    IsProperActor s.nodes s.full b → b.is_live ≡ a.is_live → b.weight ≡ a.weight → IsCore (record s { words = words; actors = set s.actors k b })
+core-moved s words k a b h e l w p live weight = record {
+  opening = h.opening;
+  words = AreSets-less s.nodes s.full s.words words h.words l w;
+  actors = actors-set (IsProperActor s.nodes s.full) s.actors k b h.actors p;
+  weights = weights-same s.opening_weight s.actors k a b e live weight h.weights;
+}
+
+pub core-asserts : (m : Meaning) (k : ℕ) (fact : Fact) (s t : CoreState) → IsCore s → MayAssert s k fact → Asserts m k fact s t → IsCore t
+core-asserts m k fact s t h may step =
+    let a = step.actor in
+    let words = step.words in
+    let e = edge_between s.nodes fact.i fact.j in
+    let p : IsProperActor s.nodes s.full a = h.actors k a step.is_there in
+    let l : length words ≡ length s.words = ap length step.words_is ∙ length-met_at m s.nodes s.words fact.i fact.j fact.rel in
+    let w : AreWithin words s.words = subst (λ (x : List ℕ). AreWithin x s.words) (sym step.words_is) (met_at-within m s.nodes s.words fact.i fact.j fact.rel) in
+    subst IsCore (sym step.after) (core-moved s words k a (seeing e (slice_index words e) (stating fact a)) h step.is_there l w
+    (proper-seeing s.nodes s.full e (slice_index words e) (stating fact a) (proper-stating s.nodes s.full fact a p may.proper)) refl refl)
+
+pub core-reads : (k e : ℕ) (s t : CoreState) → IsCore s → Reads k e s t → IsCore t
+core-reads k e s t h step =
+    let a = step.actor in
+    let p : IsProperActor s.nodes s.full a = h.actors k a step.is_there in
+    subst IsCore (sym step.after) (core-moved s s.words k a (seeing e (slice_index s.words e) a) h step.is_there refl (AreWithin-refl s.words)
+    (proper-seeing s.nodes s.full e (slice_index s.words e) a p) refl refl)
+
+pub core-narrows : (m : Meaning) (k i j l : ℕ) (s t : CoreState) → IsCore s → Narrows m k i j l s t → IsCore t
+core-narrows m k i j l s t h step =
+    let a = step.actor in
+    let words = step.words in
+    let e = edge_between s.nodes i l in
+    let x = composition m (set_at m s.nodes a.seen i j) (set_at m s.nodes a.seen j l) in
+    let p : IsProperActor s.nodes s.full a = h.actors k a step.is_there in
+    let q : length words ≡ length s.words = ap length step.words_is ∙ length-met_at m s.nodes s.words i l x in
+    let w : AreWithin words s.words = subst (λ (y : List ℕ). AreWithin y s.words) (sym step.words_is) (met_at-within m s.nodes s.words i l x) in
+    subst IsCore (sym step.after) (core-moved s words k a (seeing e (slice_index words e) a) h step.is_there q w
+    (proper-seeing s.nodes s.full e (slice_index words e) a p) refl refl)
+
+pub core-splits : (k left : ℕ) (s t : CoreState) → IsCore s → MaySplit s k left → Splits k left s t → IsCore t
+core-splits k left s t h may step =
+    let a = step.actor in
+    let p : IsProperActor s.nodes s.full a = h.actors k a step.is_there in
+    let same : may.live.actor ≡ a = same_actor s.actors k may.live.actor a may.live.live.is_there step.is_there in
+    let live : IsLiveAt s.actors k a = record { is_there = step.is_there; is_live = subst (λ (x : ActorState). IsTrue x.is_live) same may.live.live.is_live } in
+    let less : left < a.weight = subst (λ (x : ActorState). left < x.weight) same may.live.more in
+    subst IsCore (sym step.after) (record {
+      opening = h.opening;
+      words = h.words;
+      actors = actors-more (IsProperActor s.nodes s.full) (set s.actors k (giving left a)) (fresh left a.seen)
+          (actors-set (IsProperActor s.nodes s.full) s.actors k (giving left a) h.actors (proper-giving s.nodes s.full left a p))
+          (proper-fresh s.nodes s.full left a.seen p.seen);
+      weights = weights-split s.opening_weight s.actors k left a a.seen live may.some less h.weights;
+    })
+
+pub core-joins : (k l : ℕ) (s t : CoreState) → IsCore s → MayJoin s k l → Joins k l s t → IsCore t
+core-joins k l s t h may step =
+    let a = step.actor in
+    let b = step.other in
+    let p : IsProperActor s.nodes s.full a = h.actors k a step.is_there in
+    let q : IsProperActor s.nodes s.full b = h.actors l b step.other_there in
+    let live : IsLiveAt s.actors k a = live_here s k a may.live step.is_there in
+    let other_live : IsLiveAt s.actors l b = live_here s l b may.other_live step.other_there in
+    subst IsCore (sym step.after) (record {
+      opening = h.opening;
+      words = h.words;
+      actors = actors-set (IsProperActor s.nodes s.full) (set s.actors k (joining a b)) l (spent b)
+          (actors-set (IsProperActor s.nodes s.full) s.actors k (joining a b) h.actors (proper-joining s.nodes s.full a b p q))
+          (proper-spent s.nodes s.full b q);
+      weights = weights-join s.opening_weight s.actors k l a b may.differ live other_live h.weights;
+    })
+
+-- every allowed event keeps it
+pub core-step : (m : Meaning) (e : Event) (s t : CoreState) → IsCore s → IsAllowed s e → IsStep m e s t → IsCore t
+core-step m (Assert k fact) s t h may step = core-asserts m k fact s t h may step
+core-step m (Read k e) s t h may step = core-reads k e s t h step
+core-step m (Narrow k i j l) s t h may step = core-narrows m k i j l s t h step
+core-step m (Split k left) s t h may step = core-splits k left s t h may step
+core-step m (Join k l) s t h may step = core-joins k l s t h may step

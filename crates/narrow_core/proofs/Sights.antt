@@ -1,0 +1,125 @@
+-- What actors have seen: the set of a pair after one edge or all edges are met, and facts under smaller words.
+use Rattle.std.proofs.Common.{◌≡◌, ◌≢◌, ℕ, zero, suc, ◌+◌, ◌<◌, ◌≤◌, cond, List, [], ◌∷◌, ◌++◌, length, get_or, set, refl, sym, ◌∙◌, ap, subst, arith, ◌⊎◌, inl, inr, Some, None, length-append}
+use Rattle.std.specs.Prelude.{bit_and, slice_index, slice_set}
+use Rattle.std.specs.List.{All, zip}
+use Rattle.std.proofs.lemmas.Bool.{cases_lt, lt-ltb, le-ltb}
+use Rattle.std.proofs.lemmas.List.{length-set, get_or-set_same, get_or-set_other}
+use Rattle.calculus_table.specs.Rel.{Has, IsWithin}
+use Rattle.calculus_table.specs.Meaning.{Meaning}
+use Rattle.calculus_table.specs.Composition.{full_of, composition, converse}
+use Rattle.calculus_table.specs.Calculus.{IsCalculus, IsTable}
+use Rattle.calculus_table.proofs.Sets.{IsWithin-refl, IsWithin-trans, IsWithin-meet, IsWithin-meet_l, IsWithin-meet_r, IsWithin-empty}
+use Rattle.calculus_table.proofs.Compositions.{converse-mono}
+use Rattle.network_words.specs.declared.fact.Fact.{Fact}
+use Rattle.network_words.specs.Edge.{edge_count, edge_at, IsProperPair, IsProperTriple}
+use Rattle.network_words.specs.Network.{IsNetwork, AreWithin, set_at, met_at}
+use Rattle.network_words.proofs.Edges.{edge_at-lt}
+use Rattle.network_words.proofs.Networks.{AreWithin-refl, AreWithin-trans, set-cases, set_at-mono, set_at-straight, set_at-turned}
+use Rattle.narrow_core.specs.Actor.{met_words}
+use Rattle.narrow_core.specs.Machine.{AreSets, IsProperFact}
+use Rattle.narrow_core.specs.Event.{edge_between}
+use Rattle.narrow_core.specs.Bound.{IsWithinFact}
+use Rattle.narrow_core.proofs.Places.{All-weaken}
+
+-- ---- facts
+
+pub facts-mono : (m : Meaning) (n : ℕ) (xs ys : List ℕ) (facts : List Fact) → AreWithin xs ys → All (IsWithinFact m n ys) facts → All (IsWithinFact m n xs) facts
+facts-mono m n xs ys facts w = All-weaken (IsWithinFact m n ys) (IsWithinFact m n xs) facts (λ f h. IsWithin-trans _ _ _ (set_at-mono m n xs ys f.i f.j w) h)
+
+-- ---- the edge between two nodes
+
+pub edge_between-straight : (n i j : ℕ) → i < j → edge_between n i j ≡ edge_at n i j
+edge_between-straight n i j h = ap (λ b. cond b (edge_at n i j) (edge_at n j i)) (lt-ltb i j h)
+
+pub edge_between-turned : (n i j : ℕ) → j ≤ i → edge_between n i j ≡ edge_at n j i
+edge_between-turned n i j h = ap (λ b. cond b (edge_at n i j) (edge_at n j i)) (le-ltb i j h)
+
+pub edge_between-lt : (n i j : ℕ) → IsProperPair n i j → edge_between n i j < edge_count n
+edge_between-lt n i j p = elim (cases_lt i j) [
+  | inl o ↦ rw (edge_between-straight n i j o) (edge_at-lt n i j o p.second_below)
+  | inr o ↦ (let d : i ≢ j = p.differ in
+      let o' : j < i = omega arith in
+      rw (edge_between-turned n i j o) (edge_at-lt n j i o' p.first_below))
+]
+
+-- where the words of the edge between two nodes are within one another, so are the sets of the pair
+pub set_at-edge : (m : Meaning) (n : ℕ) (xs ys : List ℕ) (i j : ℕ) →
+    IsWithin (slice_index xs (edge_between n i j)) (slice_index ys (edge_between n i j)) → IsWithin (set_at m n xs i j) (set_at m n ys i j)
+set_at-edge m n xs ys i j w = elim (cases_lt i j) [
+  | inl o ↦ rw (set_at-straight m n xs i j o, set_at-straight m n ys i j o) (rw (edge_between-straight n i j o) at w)
+  | inr o ↦ rw (set_at-turned m n xs i j o, set_at-turned m n ys i j o) (converse-mono m _ _ (rw (edge_between-turned n i j o) at w))
+]
+
+-- ---- one edge seen
+
+pub length-seen : (seen : List ℕ) (e x : ℕ) → length (slice_set seen e (bit_and (slice_index seen e) x)) ≡ length seen
+length-seen seen e x = length-set seen e (bit_and (slice_index seen e) x)
+
+pub seen-within : (seen : List ℕ) (e x : ℕ) → AreWithin (slice_set seen e (bit_and (slice_index seen e) x)) seen
+seen-within seen e x = record {
+  each = λ d. elim (set-cases seen e (bit_and (slice_index seen e) x) d) [
+    | inl same ↦ rw same (IsWithin-refl _)
+    | inr here ↦ rw (here.1, here.0) (IsWithin-meet_l (slice_index seen e) x)
+  ];
+}
+
+-- words within what was seen stay within, after their own edge is seen
+pub seen-keeps : (words seen : List ℕ) (e : ℕ) → AreWithin words seen → AreWithin words (slice_set seen e (bit_and (slice_index seen e) (slice_index words e)))
+seen-keeps words seen e w = record {
+  each = λ d. elim (set-cases seen e (bit_and (slice_index seen e) (slice_index words e)) d) [
+    | inl same ↦ rw same (w.each d)
+    | inr here ↦ rw (here.1, here.0) (IsWithin-meet _ _ _ (w.each e) (IsWithin-refl (slice_index words e)))
+  ];
+}
+
+-- the edge seen is within the set seen
+pub seen-edge : (seen : List ℕ) (e x : ℕ) → e < length seen → IsWithin (slice_index (slice_set seen e (bit_and (slice_index seen e) x)) e) x
+seen-edge seen e x b = rw (get_or-set_same seen e (bit_and (slice_index seen e) x) 0 b) (IsWithin-meet_r (slice_index seen e) x)
+
+-- ---- all edges met
+
+pub length-met : (xs ys : List ℕ) → length xs ≡ length ys → length (met_words xs ys) ≡ length xs
+length-met [] ys e = refl
+length-met (x ∷ xs) [] e = absurd (omega arith)
+length-met (x ∷ xs) (y ∷ ys) e = ap suc (length-met xs ys (omega arith))
+
+met-each_l : (xs ys : List ℕ) (e : ℕ) → IsWithin (slice_index (met_words xs ys) e) (slice_index xs e)
+met-each_l [] ys e = IsWithin-refl 0
+met-each_l (x ∷ xs) [] e = IsWithin-empty _
+met-each_l (x ∷ xs) (y ∷ ys) zero = IsWithin-meet_l x y
+met-each_l (x ∷ xs) (y ∷ ys) (suc e) = met-each_l xs ys e
+
+met-each_r : (xs ys : List ℕ) (e : ℕ) → IsWithin (slice_index (met_words xs ys) e) (slice_index ys e)
+met-each_r [] ys e = IsWithin-empty _
+met-each_r (x ∷ xs) [] e = IsWithin-refl 0
+met-each_r (x ∷ xs) (y ∷ ys) zero = IsWithin-meet_r x y
+met-each_r (x ∷ xs) (y ∷ ys) (suc e) = met-each_r xs ys e
+
+met-each : (xs ys : List ℕ) (e a : ℕ) → IsWithin a (slice_index xs e) → IsWithin a (slice_index ys e) → IsWithin a (slice_index (met_words xs ys) e)
+met-each [] ys e a p q = p
+met-each (x ∷ xs) [] e a p q = q
+met-each (x ∷ xs) (y ∷ ys) zero a p q = IsWithin-meet a x y p q
+met-each (x ∷ xs) (y ∷ ys) (suc e) a p q = met-each xs ys e a p q
+
+pub met-within_l : (xs ys : List ℕ) → AreWithin (met_words xs ys) xs
+met-within_l xs ys = record { each = met-each_l xs ys }
+
+pub met-within_r : (xs ys : List ℕ) → AreWithin (met_words xs ys) ys
+met-within_r xs ys = record { each = met-each_r xs ys }
+
+pub met-keeps : (words xs ys : List ℕ) → AreWithin words xs → AreWithin words ys → AreWithin words (met_words xs ys)
+met-keeps words xs ys p q = record { each = λ e. met-each xs ys e (slice_index words e) (p.each e) (q.each e) }
+
+pub met-index : (xs ys : List ℕ) (e : ℕ) → length xs ≡ length ys → e < length xs → slice_index (met_words xs ys) e ≡ bit_and (slice_index xs e) (slice_index ys e)
+met-index [] ys e l b = absurd (omega arith)
+met-index (x ∷ xs) [] e l b = absurd (omega arith)
+met-index (x ∷ xs) (y ∷ ys) zero l b = refl
+met-index (x ∷ xs) (y ∷ ys) (suc e) l b = met-index xs ys e (omega arith) (omega arith)
+
+-- ---- sets for each edge
+
+pub AreSets-less : (n full : ℕ) (xs ys : List ℕ) → AreSets n full xs → length ys ≡ length xs → AreWithin ys xs → AreSets n full ys
+AreSets-less n full xs ys s l w = record { length_is = l ∙ s.length_is; within = λ e. IsWithin-trans _ _ _ (w.each e) (s.within e) }
+
+pub AreSets-network : (m : Meaning) (n full : ℕ) (xs : List ℕ) → full ≡ full_of m → AreSets n full xs → IsNetwork m n xs
+AreSets-network m n full xs e s = record { length_is = s.length_is; within = λ k. subst (IsWithin (slice_index xs k)) e (s.within k) }

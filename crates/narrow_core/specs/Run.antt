@@ -1,0 +1,16 @@
+-- Runs of the machine: events one after another, each allowed where it happens.
+use Rattle.std.specs.Prelude.{◌≡◌, ℕ, ◌<◌, ◌≤◌, ◌↔◌, List, [], ◌∷◌, length, slice_get, Some}
+use Rattle.calculus_table.specs.Meaning.{Meaning}
+use Rattle.narrow_core.specs.declared.event.Event.{Event}
+use Rattle.narrow_core.specs.Machine.{CoreState}
+use Rattle.narrow_core.specs.Event.{IsAllowed, IsStep}
+
+-- the events lead, each allowed, from the state old to the state new
+abbrev pub IsRun : Meaning → List Event → CoreState → CoreState → Type 0
+IsRun m [] old new = new ≡ old
+IsRun m (e ∷ es) old new = (mid : CoreState) × IsAllowed old e × IsStep m e old mid × IsRun m es mid new
+
+-- after the first steps of the events the state is s: all were made, or the next one isn't allowed there
+pub record StopsAt (events : List Event) (steps : ℕ) (s : CoreState) : Type 0 where
+  pub bounded : steps ≤ length events
+  pub stops : (e : Event) → slice_get events steps ≡ Some e → ¬ IsAllowed s e

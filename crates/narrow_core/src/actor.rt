@@ -1,0 +1,147 @@
+use crate::lists::{chained, met};
+use calculus_table::{Compose, Memory, Rel};
+use network_words::{Fact, Net};
+use std::alloc::Global;
+use std::marker::Model;
+
+/// What one actor has stated and what it has seen.
+#[derive(Debug, Drop)]
+pub struct Actor {
+    is_live: bool,
+    weight: u32,
+    mine: Vec<Fact>,
+    seen: Vec<u64>,
+}
+
+impl Model for Actor {
+    ghost use Rattle.narrow_core.specs.Actor.{ActorState};
+
+    ghost Value = { ActorState };
+
+    ghost view = { λ a. record { is_live = a.is_live; weight = a.weight; mine = a.mine.items; seen = a.seen.items } };
+}
+
+impl Actor {
+    ghost use Rattle.std.specs.Prelude.{◌≡◌, ◌+◌, ◌≤◌, ◌<◌, ◌^◌, length, slice_index, IfOk, IfErr, IsErr};
+    ghost use Rattle.calculus_table.specs.Rel.{IsWithin};
+    ghost use Rattle.calculus_table.specs.Composition.{full_of};
+    ghost use Rattle.network_words.specs.Edge.{IsProperPair};
+    ghost use Rattle.network_words.specs.Network.{IsNetwork, set_at};
+    ghost use Rattle.narrow_core.specs.Actor.{ActorState, fresh, seeing, stating, giving, joining, spent};
+
+    /// A live actor that has stated nothing.
+    pub(crate) fn new(alloc: Global, weight: u32, seen: &[u64]) -> Result<Actor, Memory>
+        ensures { IfOk result (λ a. a ≡ fresh weight seen.now) }
+    {
+        let seen = Vec::from_slice(alloc, seen).map_err(|_| Memory)?;
+        Ok(Actor {
+            is_live: true,
+            weight,
+            mine: Vec::new(alloc),
+            seen,
+        })
+    }
+
+    pub(crate) fn is_live(&self) -> bool
+        ensures { result ≡ self.now.is_live }
+    {
+        self.is_live
+    }
+
+    /// The actor's part of the whole weight.
+    pub fn weight(&self) -> u32
+        ensures { result ≡ self.now.weight }
+    {
+        self.weight
+    }
+
+    /// The facts that the actor has stated.
+    pub fn facts(&self) -> &[Fact]
+        ensures { result.now ≡ self.now.mine }
+    {
+        &self.mine
+    }
+
+    /// The set that the actor has seen of each edge, in edge order.
+    pub fn seen(&self) -> &[u64]
+        ensures { result.now ≡ self.now.seen }
+    {
+        &self.seen
+    }
+
+    fn sight(&self, edge: u32) -> Rel
+        requires { edge < length self.now.seen }
+        ensures { result ≡ slice_index self.now.seen edge }
+    {
+        Rel::of(self.seen[edge as usize])
+    }
+
+    /// What the actor has seen of the pair `(i, j)`, turned by the converse where `i > j`.
+    pub(crate) fn seen_between<C: Compose>(&self, c: &C, net: &Net, i: u32, j: u32) -> Rel
+        requires proper { IsProperPair net.now.nodes i j }
+        requires within { IsNetwork (C.meaning c.now) net.now.nodes self.now.seen }
+        ensures value { result ≡ set_at (C.meaning c.now) net.now.nodes self.now.seen i j }
+        ensures within { IsWithin result (full_of (C.meaning c.now)) }
+    {
+        if i < j {
+            self.sight(net.edge(i, j))
+        } else {
+            c.converse(self.sight(net.edge(j, i)))
+        }
+    }
+
+    /// Meets what the actor has seen of an edge with the set that stands there.
+    pub(crate) fn see(&mut self, edge: u32, rel: Rel)
+        requires { edge < length self.old.seen }
+        ensures { self.new ≡ seeing edge rel self.old }
+    {
+        self.seen[edge as usize] &= rel.word();
+    }
+
+    /// Adds a fact to those that the actor has stated.
+    pub(crate) fn state(&mut self, fact: Fact) -> Result<(), Memory>
+        ensures stated { IfOk result (λ _. self.new ≡ stating fact self.old) }
+        ensures memory { IfErr result (λ _. self.new ≡ self.old) }
+    {
+        self.mine.push(fact).map_err(|_| Memory)
+    }
+
+    /// A new actor that takes the weight `left` and has seen the same.
+    pub(crate) fn split(&self, left: u32) -> Result<Actor, Memory>
+        ensures { IfOk result (λ a. a ≡ fresh left self.now.seen) }
+    {
+        Actor::new(*self.mine.allocator(), left, &self.seen)
+    }
+
+    /// Gives away the weight `left`.
+    pub(crate) fn give(&mut self, left: u32)
+        requires { left ≤ self.old.weight }
+        ensures { self.new ≡ giving left self.old }
+    {
+        self.weight -= left;
+    }
+
+    /// This actor with all that the other has.
+    pub(crate) fn joined(&self, other: &Actor) -> Result<Actor, Memory>
+        requires fits { self.now.weight + other.now.weight < 2 ^ 32 }
+        requires same { length self.now.seen ≡ length other.now.seen }
+        ensures { IfOk result (λ a. a ≡ joining self.now other.now) }
+    {
+        let alloc = *self.mine.allocator();
+        let mine = chained(alloc, &self.mine, &other.mine)?;
+        let seen = met(alloc, &self.seen, &other.seen)?;
+        Ok(Actor {
+            is_live: self.is_live,
+            weight: self.weight + other.weight,
+            mine,
+            seen,
+        })
+    }
+
+    /// Marks the actor as spent.
+    pub(crate) fn spend(&mut self)
+        ensures { self.new ≡ spent self.old }
+    {
+        self.is_live = false;
+    }
+}

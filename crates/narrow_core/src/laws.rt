@@ -1,0 +1,7 @@
+ghost use Rattle.narrow_core.specs.Laws.{EveryScheduleKeepsTheBound, TheWholeWeightIsAlone};
+
+/// What holds after every list of events from the opening of the machine, however the steps of its actors interleave.
+pub fn laws_of_schedules()
+    ensures every_schedule_keeps_the_bound { EveryScheduleKeepsTheBound }
+    ensures the_whole_weight_is_alone { TheWholeWeightIsAlone }
+{}

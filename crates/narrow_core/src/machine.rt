@@ -1,0 +1,238 @@
+use crate::actor::Actor;
+use crate::event::Event;
+use crate::words::{copied, edge_between};
+use calculus_table::{Compose, Memory, Rel};
+use network_words::{Fact, Net};
+use std::alloc::Global;
+use std::marker::Model;
+
+/// The machine: a network that several actors narrow, event by event.
+#[derive(Debug, Drop)]
+pub struct Core {
+    opening: Vec<u64>,
+    opening_weight: u32,
+    words: Net,
+    actors: Vec<Actor>,
+}
+
+impl Model for Core {
+    ghost use Rattle.std.specs.Prelude.{◌<◌, ◌^◌};
+    ghost use Rattle.narrow_core.specs.Machine.{CoreState, IsCore};
+
+    ghost Value = { CoreState };
+
+    ghost view = { λ a. record {
+      nodes = a.words.nodes;
+      full = a.words.full;
+      opening = a.opening.items;
+      opening_weight = a.opening_weight;
+      words = a.words.words;
+      actors = a.actors.items;
+    } };
+
+    ghost invariant = { λ a. record {
+      core : IsCore (record {
+        nodes = a.words.nodes;
+        full = a.words.full;
+        opening = a.opening.items;
+        opening_weight = a.opening_weight;
+        words = a.words.words;
+        actors = a.actors.items;
+      });
+      fits : a.opening_weight < 2 ^ 32;
+    } };
+}
+
+impl Core {
+    ghost use Rattle.std.specs.Prelude.{◌≡◌, ◌≢◌, ℕ, ◌+◌, ◌<◌, ◌≤◌, ◌↔◌, ◌^◌, List, length, take, slice_get, slice_index, IfOk, IfErr, IsTrue, Some, MatchOption};
+    ghost use Rattle.calculus_table.specs.Rel.{IsWithin};
+    ghost use Rattle.calculus_table.specs.Meaning.{Meaning};
+    ghost use Rattle.calculus_table.specs.Composition.{full_of};
+    ghost use Rattle.network_words.specs.Network.{Network};
+    ghost use Rattle.network_words.specs.Edge.{IsProperPair};
+    ghost use Rattle.narrow_core.specs.Actor.{ActorState, IsLiveAt};
+    ghost use Rattle.narrow_core.specs.Machine.{CoreState, IsCore, IsProperFact, opened};
+    ghost use Rattle.narrow_core.specs.Event.{IsAllowed, IsStep, HasLive, HasMore, MayAssert, MayRead, MayNarrow, MaySplit, MayJoin, Asserts, Reads, Narrows, Splits, Joins};
+    ghost use Rattle.narrow_core.specs.Run.{IsRun, StopsAt};
+    ghost use Rattle.narrow_core.specs.Bound.{Bound};
+
+    /// The machine over `net`, with one live actor, number 0, that has the whole weight and has seen the network.
+    pub fn new(alloc: Global, net: &Net, weight: u32) -> Result<Core, Memory>
+        requires some { 0 < weight }
+        requires within { (e : ℕ) → IsWithin (slice_index net.now.words e) net.now.full }
+        ensures opened { IfOk result (λ core. core ≡ opened net.now weight) }
+        ensures bound { IfOk result (λ core. (m : Meaning) → Bound m core) }
+    {
+        let opening = Vec::from_slice(alloc, net.words()).map_err(|_| Memory)?;
+        let words = copied(alloc, net)?;
+        let actor = Actor::new(alloc, weight, net.words())?;
+        let mut actors = Vec::new(alloc);
+        actors.push(actor).map_err(|_| Memory)?;
+        Ok(Core {
+            opening,
+            opening_weight: weight,
+            words,
+            actors,
+        })
+    }
+
+    /// The sets of all edges as they stand, in edge order.
+    pub fn words(&self) -> &[u64]
+        ensures { result.now ≡ self.now.words }
+    {
+        self.words.words()
+    }
+
+    /// The live actor of this number.
+    pub fn actor(&self, number: u32) -> Option<&Actor>
+        ensures { MatchOption result (¬ HasLive self.now number) (λ a. IsLiveAt self.now.actors number a.now) }
+    {
+        let found = self.actors.get(number as usize)?;
+        if found.is_live() { Some(found) } else { None }
+    }
+
+    /// Whether the event is allowed: its actor is live, its nodes differ and are there or its edge is, a fact's set is of base
+    /// relations of the calculus, a split leaves some weight to each side, and a join names two live actors that differ.
+    pub fn may(&self, event: &Event) -> bool
+        ensures { IsTrue result ↔ IsAllowed self.now event.now }
+    {
+        match *event {
+            Event::Assert { actor, fact } => self.is_live(actor) && self.is_proper(fact),
+            Event::Read { actor, edge } => self.is_live(actor) && edge < self.words.edges(),
+            Event::Narrow { actor, i, j, k } => {
+                self.is_live(actor) && self.is_pair(i, j) && self.is_pair(j, k) && i != k
+            }
+            Event::Split { actor, left } => 0 < left && self.has_more(actor, left),
+            Event::Join { actor, other } => {
+                actor != other && self.is_live(actor) && self.is_live(other)
+            }
+        }
+    }
+
+    /// Makes one event. Where memory is wanting the machine is as before.
+    pub fn step<C: Compose>(&mut self, c: &C, event: &Event) -> Result<(), Memory>
+        requires allowed { IsAllowed self.old event.now }
+        requires full { self.old.full ≡ full_of (C.meaning c.now) }
+        requires few { length self.old.actors < 2 ^ 31 }
+        ensures stepped { IfOk result (λ _. IsStep (C.meaning c.now) event.now self.old self.new) }
+        ensures bound { Bound (C.meaning c.now) self.old → Bound (C.meaning c.now) self.new }
+        ensures memory { IfErr result (λ _. self.new ≡ self.old) }
+    {
+        let (_bases, _words) = (c.size(), &self.words);
+        match *event {
+            Event::Assert { actor, fact } => self.assert(c, actor, fact)?,
+            Event::Read { actor, edge } => self.read(actor, edge),
+            Event::Narrow { actor, i, j, k } => self.narrow(c, actor, i, j, k),
+            Event::Split { actor, left } => self.split(actor, left)?,
+            Event::Join { actor, other } => self.join(actor, other)?,
+        }
+        Ok(())
+    }
+
+    /// Makes the events in turn while the next one is allowed, and tells how many it made. Where memory is wanting the machine
+    /// is where the first of them left it.
+    pub fn run<C: Compose>(&mut self, c: &C, events: &[Event]) -> Result<u32, Memory>
+        requires full { self.old.full ≡ full_of (C.meaning c.now) }
+        requires few { length self.old.actors + length events.now < 2 ^ 31 }
+        ensures ran { IfOk result (λ steps. IsRun (C.meaning c.now) (take steps events.now) self.old self.new) }
+        ensures stops { IfOk result (λ steps. StopsAt events.now steps self.new) }
+        ensures bound { Bound (C.meaning c.now) self.old → Bound (C.meaning c.now) self.new }
+        ensures memory { IfErr result (λ _. (steps : ℕ) × (steps ≤ length events.now) × IsRun (C.meaning c.now) (take steps events.now) self.old self.new) }
+    {
+        for (done, event) in events.iter().enumerate() {
+            if !self.may(event) {
+                return Ok(done as u32);
+            }
+            self.step(c, event)?;
+        }
+        Ok(events.len() as u32)
+    }
+
+    fn is_live(&self, actor: u32) -> bool
+        ensures { IsTrue result ↔ HasLive self.now actor }
+    {
+        self.actor(actor).is_some()
+    }
+
+    /// Whether the actor is live and has more than this weight.
+    fn has_more(&self, actor: u32, weight: u32) -> bool
+        ensures { IsTrue result ↔ HasMore self.now actor weight }
+    {
+        match self.actor(actor) {
+            Some(found) => weight < found.weight(),
+            None => false,
+        }
+    }
+
+    /// Whether the nodes are there and differ.
+    fn is_pair(&self, i: u32, j: u32) -> bool
+        ensures { IsTrue result ↔ IsProperPair self.now.nodes i j }
+    {
+        i < self.words.nodes() && j < self.words.nodes() && i != j
+    }
+
+    fn is_proper(&self, fact: Fact) -> bool
+        ensures { IsTrue result ↔ IsProperFact self.now.nodes self.now.full fact }
+    {
+        self.is_pair(fact.i, fact.j) && fact.rel.within(self.words.full())
+    }
+
+    fn assert<C: Compose>(&mut self, c: &C, actor: u32, fact: Fact) -> Result<(), Memory>
+        requires allowed { MayAssert self.old actor fact }
+        requires full { self.old.full ≡ full_of (C.meaning c.now) }
+        ensures asserted { IfOk result (λ _. Asserts (C.meaning c.now) actor fact self.old self.new) }
+        ensures memory { IfErr result (λ _. self.new ≡ self.old) }
+    {
+        let Fact { i, j, rel } = fact;
+        let edge = edge_between(&self.words, i, j);
+        let actor = &mut self.actors[actor as usize];
+        actor.state(fact)?;
+        self.words.narrow(c, i, j, rel);
+        actor.see(edge, self.words.word(edge));
+        Ok(())
+    }
+
+    fn read(&mut self, actor: u32, edge: u32)
+        requires { MayRead self.old actor edge }
+        ensures { Reads actor edge self.old self.new }
+    {
+        self.actors[actor as usize].see(edge, self.words.word(edge));
+    }
+
+    fn narrow<C: Compose>(&mut self, c: &C, actor: u32, i: u32, j: u32, k: u32)
+        requires allowed { MayNarrow self.old actor i j k }
+        requires full { self.old.full ≡ full_of (C.meaning c.now) }
+        ensures { Narrows (C.meaning c.now) actor i j k self.old self.new }
+    {
+        let edge = edge_between(&self.words, i, k);
+        let actor = &mut self.actors[actor as usize];
+        let first = actor.seen_between(c, &self.words, i, j);
+        let second = actor.seen_between(c, &self.words, j, k);
+        self.words.narrow(c, i, k, c.compose(first, second));
+        actor.see(edge, self.words.word(edge));
+    }
+
+    fn split(&mut self, actor: u32, left: u32) -> Result<(), Memory>
+        requires { MaySplit self.old actor left }
+        ensures split { IfOk result (λ _. Splits actor left self.old self.new) }
+        ensures memory { IfErr result (λ _. self.new ≡ self.old) }
+    {
+        let actor = actor as usize;
+        let new = self.actors[actor].split(left)?;
+        self.actors.push(new).map_err(|_| Memory)?;
+        self.actors[actor].give(left);
+        Ok(())
+    }
+
+    fn join(&mut self, actor: u32, other: u32) -> Result<(), Memory>
+        requires { MayJoin self.old actor other }
+        ensures joined { IfOk result (λ _. Joins actor other self.old self.new) }
+        ensures memory { IfErr result (λ _. self.new ≡ self.old) }
+    {
+        let (actor, other) = (actor as usize, other as usize);
+        let joined = self.actors[actor].joined(&self.actors[other])?;
+        self.actors[actor] = joined;
+        self.actors[other].spend();
+        Ok(())
+    }
+}
