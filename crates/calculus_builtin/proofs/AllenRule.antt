@@ -1,7 +1,7 @@
 -- The table of Allen's algebra is that of the end point rule.
-use Rattle.std.proofs.Common.{◌≡◌, ℕ, zero, suc, ◌<◌, Bool, true, ◌&&◌, ltb, leb, eqb, refl, sym, ◌∙◌, ap, subst, arith, inl, inr}
+use Rattle.std.proofs.Common.{◌≡◌, ℕ, ◌<◌, ◌≤◌, Bool, true, ◌&&◌, ltb, leb, eqb, refl, sym, ◌∙◌, ap, subst, arith}
 use Rattle.std.specs.List.{filter, list_all, list_any}
-use Rattle.std.proofs.lemmas.Bool.{and_parts, ltb-true, leb-true, eqb-true, cases_lt}
+use Rattle.std.proofs.lemmas.Bool.{and_parts, ltb-true, leb-true, eqb-true}
 use Rattle.std.proofs.lemmas.Bool.Decides.{nat_tests}
 use Rattle.calculus_table.specs.Rel.{Has}
 use Rattle.calculus_table.specs.Meaning.{converse_at, entry_at}
@@ -9,8 +9,10 @@ use Rattle.calculus_table.specs.Checked.{each_below}
 use Rattle.calculus_table.proofs.Computed.{each_below-at}
 use Rattle.calculus_table.proofs.Sets.{Has-single}
 use Rattle.calculus_table.proofs.Compositions.{single-member}
-use Rattle.calculus_builtin.specs.Allen.{Interval, equals, interval, intervals, bases, single, holds, holds_at, IsAmongSix, ComposesByRule, FollowsRule, relations, relations_past, relations_from, allen_entry, allen_meaning}
+use Rattle.calculus_builtin.specs.Allen.{Interval, equals, interval, intervals, bases, single, holds, holds_at, IsInterval, ComposesByRule, FollowsRule, relations, relations_past, relations_from, allen_entry, allen_meaning}
 use Rattle.calculus_builtin.proofs.Unions.{Listed, InUnionOf, union_of-member, Has-union_of, filter-listed, Listed-filter, listed-passes, Listed-from_test}
+use Rattle.calculus_builtin.proofs.Numbers.{EachNumber, each_number-at}
+use Rattle.calculus_builtin.proofs.AllenRanks.{ComposesByRule-ranked}
 use Rattle.calculus_builtin.proofs.AllenLaws.{written, allen_table-written}
 
 -- ---- the fifteen intervals are those among six end points
@@ -21,10 +23,13 @@ is_among_six x = ltb x.low x.high && leb x.high 5
 intervals_among : list_all is_among_six intervals ≡ true
 intervals_among = refl
 
-among-listed : (x : Interval) → Listed x intervals → IsAmongSix x
-among-listed x l =
-    let p = and_parts (ltb x.low x.high) (leb x.high 5) (listed-passes is_among_six intervals x intervals_among l) in
-    record { proper = ltb-true _ _ p.0; within = leb-true _ _ p.1 }
+listed-proper : (x : Interval) → Listed x intervals → IsInterval x
+listed-proper x l =
+    ltb-true _ _ (and_parts (ltb x.low x.high) (leb x.high 5) (listed-passes is_among_six intervals x intervals_among l)).0
+
+listed-within : (x : Interval) → Listed x intervals → x.high ≤ 5
+listed-within x l =
+    leb-true _ _ (and_parts (ltb x.low x.high) (leb x.high 5) (listed-passes is_among_six intervals x intervals_among l)).1
 
 abbrev pub has_points : ℕ → ℕ → Interval → Bool
 has_points high low x = eqb low x.low && eqb high x.high
@@ -45,10 +50,10 @@ interval-same high low y e =
     let highs : high ≡ y.high = eqb-true _ _ p.1 in
     ap (λ l. interval l high) lows ∙ ap (λ h. interval y.low h) highs
 
-listed-among : (x : Interval) → IsAmongSix x → Listed x intervals
-listed-among x a =
-    let row = each_below-at 6 are_intervals x.high intervals_all (omega (arith, a.within)) in
-    Listed-from_test (has_points x.high x.low) x (interval-same x.high x.low) intervals (each_below-at x.high (is_interval x.high) x.low row a.proper)
+listed-among : (x : Interval) → IsInterval x → x.high ≤ 5 → Listed x intervals
+listed-among x proper within =
+    let row = each_below-at 6 are_intervals x.high intervals_all (omega arith) in
+    Listed-from_test (has_points x.high x.low) x (interval-same x.high x.low) intervals (each_below-at x.high (is_interval x.high) x.low row proper)
 
 -- ---- the thirteen base numbers
 
@@ -84,23 +89,32 @@ entry-member r s t h =
     let first = filter-listed (holds r x) intervals y j.listed in
     let second = filter-listed (holds s y) intervals z k.listed in
     record {
-      first = x;
-      middle = y;
-      last = z;
-      first_among = among-listed x i.listed;
-      middle_among = among-listed y first.0;
-      last_among = among-listed z second.0;
-      holds_first = first.1;
-      holds_second = second.1;
-      holds_third = relations-member x z t k.member;
+      x = x;
+      y = y;
+      z = z;
+      x_within = listed-within x i.listed;
+      y_within = listed-within y first.0;
+      z_within = listed-within z second.0;
+      lie = record {
+        x_proper = listed-proper x i.listed;
+        y_proper = listed-proper y first.0;
+        z_proper = listed-proper z second.0;
+        first = first.1;
+        second = second.1;
+        third = relations-member x z t k.member;
+      };
     }
 
 Has-entry : (r s t : ℕ) → t < 13 → ComposesByRule r s t → Has (allen_entry r s) t
 Has-entry r s t l c =
-    Has-union_of (relations_from r s) intervals t c.first (listed-among c.first c.first_among)
-    (Has-union_of (relations_past s c.first) (filter (holds r c.first) intervals) t c.middle (Listed-filter (holds r c.first) intervals c.middle (listed-among c.middle c.middle_among) c.holds_first)
-    (Has-union_of (relations c.first) (filter (holds s c.middle) intervals) t c.last (Listed-filter (holds s c.middle) intervals c.last (listed-among c.last c.last_among) c.holds_second)
-    (Has-relations c.first c.last t l c.holds_third)))
+    let lie = c.lie in
+    let xs : Listed c.x intervals = listed-among c.x lie.x_proper c.x_within in
+    let ys : Listed c.y intervals = listed-among c.y lie.y_proper c.y_within in
+    let zs : Listed c.z intervals = listed-among c.z lie.z_proper c.z_within in
+    Has-union_of (relations_from r s) intervals t c.x xs
+    (Has-union_of (relations_past s c.x) (filter (holds r c.x) intervals) t c.y (Listed-filter (holds r c.x) intervals c.y ys lie.first)
+    (Has-union_of (relations c.x) (filter (holds s c.y) intervals) t c.z (Listed-filter (holds s c.y) intervals c.z zs lie.second)
+    (Has-relations c.x c.z t l lie.third)))
 
 -- ---- the entries of the table
 
@@ -118,18 +132,6 @@ written-entry r s hr hs =
     eqb-true _ _ (each_below-at 13 (is_entry r) s (each_below-at 13 are_entries r entries_all hr) hs)
 
 -- ---- the converses
-
--- P holds of each number below the bound
-abbrev pub EachNumber : ℕ → (ℕ → Type 0) → Type 0
-EachNumber zero P = Unit {0}
-EachNumber (suc n) P = P n × EachNumber n P
-
-each_number-at : (n : ℕ) (P : ℕ → Type 0) → EachNumber n P → (k : ℕ) → k < n → P k
-each_number-at zero P e k h = absurd (omega arith)
-each_number-at (suc n) P e k h = elim (cases_lt k n) [
-  | inl l ↦ each_number-at n P e.1 k l
-  | inr g ↦ (let same : n ≡ k = omega arith in subst P same e.0)
-]
 
 abbrev pub TurnsRule : ℕ → Type 0
 TurnsRule r = (x y : Interval) → holds (converse_at written r) x y ≡ holds r y x
@@ -149,7 +151,9 @@ written-rule : FollowsRule written
 written-rule = record {
   composes = λ r s t hr hs ht. let e = written-entry r s hr hs in
       (λ h. entry-member r s t (rw e at h), λ c. rw e (Has-entry r s t ht c));
-  turns = each_number-at 13 TurnsRule rules_turned;
+  sound = λ r s t x y z hr hs ht lie.
+      rw (written-entry r s hr hs) (Has-entry r s t ht (ComposesByRule-ranked r s t x y z hr hs ht lie));
+  turns = λ r x y hr. each_number-at 13 TurnsRule rules_turned r hr x y;
 }
 
 -- Allen's algebra follows the end point rule

@@ -62,27 +62,35 @@ allen_rules =
 abbrev pub holds : ℕ → Rule
 holds r = slice_index_or allen_rules r never
 
--- an interval whose end points are among 0 to 5; three intervals have six end points, so these show every way to lie
-pub record IsAmongSix (x : Interval) : Type 0 where
-  pub proper : x.low < x.high
-  pub within : x.high ≤ 5
+-- an interval begins before it ends
+abbrev pub IsInterval : Interval → Type 0
+IsInterval x = x.low < x.high
 
--- some intervals x, y and z among six end points have x r y, y s z and x t z
+-- x, y and z are intervals with x r y, y s z and x t z
+pub record LieBy (r s t : ℕ) (x y z : Interval) : Type 0 where
+  pub x_proper : IsInterval x
+  pub y_proper : IsInterval y
+  pub z_proper : IsInterval z
+  pub first : IsTrue (holds r x y)
+  pub second : IsTrue (holds s y z)
+  pub third : IsTrue (holds t x z)
+
+-- there are intervals with end points among 0 to 5 that lie so
 pub record ComposesByRule (r s t : ℕ) : Type 0 where
-  pub first : Interval
-  pub middle : Interval
-  pub last : Interval
-  pub first_among : IsAmongSix first
-  pub middle_among : IsAmongSix middle
-  pub last_among : IsAmongSix last
-  pub holds_first : IsTrue (holds r first middle)
-  pub holds_second : IsTrue (holds s middle last)
-  pub holds_third : IsTrue (holds t first last)
+  pub x : Interval
+  pub y : Interval
+  pub z : Interval
+  pub x_within : x.high ≤ 5
+  pub y_within : y.high ≤ 5
+  pub z_within : z.high ≤ 5
+  pub lie : LieBy r s t x y z
 
--- the compositions are those of the end point rule, and the converses those of the rules turned round
+-- the compositions are those of the end point rule; intervals on whatever end points lie in no way that they leave out;
+-- and the rule of a converse is the rule turned round
 pub record FollowsRule (m : Meaning) : Type 0 where
   pub composes : (r s t : ℕ) → r < 13 → s < 13 → t < 13 → Has (entry_at m r s) t ↔ ComposesByRule r s t
-  pub turns : (r : ℕ) → r < 13 → (x y : Interval) → holds (converse_at m r) x y ≡ holds r y x
+  pub sound : (r s t : ℕ) (x y z : Interval) → r < 13 → s < 13 → t < 13 → LieBy r s t x y z → Has (entry_at m r s) t
+  pub turns : (r : ℕ) (x y : Interval) → r < 13 → holds (converse_at m r) x y ≡ holds r y x
 
 -- the union of the sets of the elements
 abbrev pub union_of : {X : Type 0} → (X → ℕ) → List X → ℕ

@@ -39,6 +39,7 @@ const IDENTITY: u32 = 6;
 
 const CONVERSES: [u32; 13] = [12, 11, 10, 9, 8, 7, 6, 5, 4, 3, 2, 1, 0];
 
+// The relations of intervals that share more than an end point.
 const INNER: u64 = O | FI | DI | S | EQ | SI | D | F | OI;
 
 const ALL: u64 = B | M | INNER | MI | BI;

@@ -27,23 +27,35 @@ const IDENTITY: u32 = 7;
 
 const CONVERSES: [u32; 8] = [0, 1, 2, 5, 6, 3, 4, 7];
 
-const APART: u64 = DC | EC | PO;
-
 const PART: u64 = TPP | NTPP;
 
 const WHOLE: u64 = TPPI | NTPPI;
 
-const ALL: u64 = APART | PART | WHOLE | EQ;
+const ALL: u64 = DC | EC | PO | PART | WHOLE | EQ;
 
 #[rattlefmt::skip]
 const COMPOSITIONS: [u64; 64] = [
-    ALL, APART | PART, APART | PART, APART | PART, APART | PART, DC, DC, DC,
-    APART | WHOLE, APART | TPP | TPPI | EQ, APART | PART, EC | PO | PART, PO | PART, DC | EC, DC, EC,
-    APART | WHOLE, APART | WHOLE, ALL, PO | PART, PO | PART, APART | WHOLE, APART | WHOLE, PO,
-    DC, DC | EC, APART | PART, PART, NTPP, APART | TPP | TPPI | EQ, APART | WHOLE, TPP,
-    DC, DC, APART | PART, NTPP, NTPP, APART | PART, ALL, NTPP,
-    APART | WHOLE, EC | PO | WHOLE, PO | WHOLE, PO | TPP | TPPI | EQ, PO | PART, WHOLE, NTPPI, TPPI,
-    APART | WHOLE, PO | WHOLE, PO | WHOLE, PO | WHOLE, PO | PART | WHOLE | EQ, NTPPI, NTPPI, NTPPI,
+    // DC
+    ALL, DC | EC | PO | PART, DC | EC | PO | PART, DC | EC | PO | PART, DC | EC | PO | PART, DC, DC,
+    DC,
+    // EC
+    DC | EC | PO | WHOLE, DC | EC | PO | TPP | TPPI | EQ, DC | EC | PO | PART, EC | PO | PART,
+    PO | PART, DC | EC, DC, EC,
+    // PO
+    DC | EC | PO | WHOLE, DC | EC | PO | WHOLE, ALL, PO | PART, PO | PART, DC | EC | PO | WHOLE,
+    DC | EC | PO | WHOLE, PO,
+    // TPP
+    DC, DC | EC, DC | EC | PO | PART, PART, NTPP, DC | EC | PO | TPP | TPPI | EQ,
+    DC | EC | PO | WHOLE, TPP,
+    // NTPP
+    DC, DC, DC | EC | PO | PART, NTPP, NTPP, DC | EC | PO | PART, ALL, NTPP,
+    // TPPi
+    DC | EC | PO | WHOLE, EC | PO | WHOLE, PO | WHOLE, PO | TPP | TPPI | EQ, PO | PART, WHOLE,
+    NTPPI, TPPI,
+    // NTPPi
+    DC | EC | PO | WHOLE, PO | WHOLE, PO | WHOLE, PO | WHOLE, PO | PART | WHOLE | EQ, NTPPI, NTPPI,
+    NTPPI,
+    // EQ
     DC, EC, PO, TPP, NTPP, TPPI, NTPPI, EQ,
 ];
 

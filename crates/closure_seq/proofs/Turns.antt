@@ -9,13 +9,13 @@ use Rattle.calculus_table.specs.Rel.{IsWithin}
 use Rattle.calculus_table.specs.Meaning.{Meaning}
 use Rattle.calculus_table.specs.Composition.{full_of, composition, converse}
 use Rattle.calculus_table.specs.Calculus.{IsCalculus}
-use Rattle.calculus_table.proofs.Sets.{IsWithin-trans, IsWithin-meet_r, IsWithin-empty, empty-within, within-meet, meet-within}
+use Rattle.calculus_table.proofs.Sets.{IsWithin-refl, IsWithin-trans, IsWithin-meet_r, IsWithin-empty, empty-within, within-meet, meet-within}
 use Rattle.calculus_table.proofs.Compositions.{composition-within, converse-mono, converse-composition}
 use Rattle.network_words.specs.Edge.{edge_count, edge_at, IsProperPair, IsProperTriple}
 use Rattle.network_words.specs.Network.{Network, IsNetwork, set_at, met_at}
 use Rattle.network_words.specs.Closure.{IsClosed, IsClosure}
 use Rattle.network_words.proofs.Edges.{edge_at-lt, edge_at-first, edge_at-second}
-use Rattle.network_words.proofs.Networks.{set_at-straight, set_at-turned, set_at-mono, set_at-converse, set_at-met_at, length-met_at, met_at-within}
+use Rattle.network_words.proofs.Networks.{set_at-straight, set_at-turned, set_at-mono, set_at-converse, set_at-met_at, length-met_at, met_at-within, set-cases}
 use Rattle.network_words.proofs.Scenarios.{turned-empty, converse-empty, closed-empty}
 use Rattle.closure_seq.specs.Narrowing.{IsLessened, IsClosedAt}
 use Rattle.closure_seq.specs.Worklist.{Worklist, IsSized, IsInStep, Waits, edge_place, left_of, IsSettledAt, IsSettled, IsSamePair, IsSettledBut, IsTurn, IsRound, IsIdle, IsEmptied}
@@ -395,13 +395,16 @@ left_of-taken net work i j z pair h =
 pub IsRound-none : (m : Meaning) (net : Network) (work : Worklist) → IsInStep m net work → IsSettled m net work → IsRound m net work net work false
 IsRound-none m net work s h = record { lessened = IsLessened-refl m net; in_step = s; settled = h; less = λ e. absurd (cc); same = λ e. (refl, refl) }
 
-pub IsRound-looked : (m : Meaning) (net : Network) (work : Worklist) (net' : Network) (work' : Worklist) (i j : ℕ) → IsSized work → IsProperPair work.nodes i j → Waits work i j →
-    IsTurn m net (taken work i j) net' work' → IsSettled m net' work' → IsRound m net work net' work' true
-IsRound-looked m net work net' work' i j z pair h p s = record {
+pub IsRound-looked : (m : Meaning) (net : Network) (work took : Worklist) (net' : Network) (work' : Worklist) (i j : ℕ) → IsSized work → IsProperPair work.nodes i j → Waits work i j → took ≡ taken work i j →
+    IsTurn m net took net' work' → IsSettled m net' work' → IsRound m net work net' work' true
+IsRound-looked m net work took net' work' i j z pair h t p s = record {
   lessened = p.lessened;
   in_step = p.in_step;
   settled = s;
-  less = λ e. let a = p.less in let b = left_of-taken net work i j z pair h in omega arith;
+  less = λ e.
+      let a = p.less in
+      let b = subst (λ (y : Worklist). left_of net y < left_of net work) (sym t) (left_of-taken net work i j z pair h) in
+      omega arith;
   same = λ e. absurd (cc);
 }
 
@@ -447,6 +450,28 @@ IsSettled-from m net work i j e pair but w = λ a b c t p q.
   where
     same-waits : (x y : ℕ) → IsSamePair x y i j → Waits work x y
     same-waits x y s = subst (λ k. get_or work.waits k false ≡ true) (sym (same-place work.nodes x y i j pair.differ s)) w
+
+pub met-closed_but : (m : Meaning) (n : ℕ) (words : List ℕ) (i j x : ℕ) → IsClosed m n words → IsClosedBut m n (met_at m n words i j x) i j
+met-closed_but m n words i j x h = record {
+  before = words;
+  closed = h;
+  within = met_at-within m n words i j x;
+  same = λ e ne. met_at-elsewhere m n words i j x e ne;
+}
+
+pub set-closed_but : (m : Meaning) (n : ℕ) (words : List ℕ) (i j x : ℕ) → i < j → IsClosed m n words → IsWithin x (slice_index words (edge_at n i j)) →
+    IsClosedBut m n (slice_set words (edge_at n i j) x) i j
+set-closed_but m n words i j x o h w = record {
+  before = words;
+  closed = h;
+  within = record {
+    each = λ e. elim (set-cases words (edge_at n i j) x e) [
+      | inl same ↦ rw same (IsWithin-refl (slice_index words e))
+      | inr here ↦ rw (here.1, here.0) w
+    ];
+  };
+  same = λ e ne. get_or-set_other words (edge_at n i j) e x 0 (λ s. ne (s ∙ sym (edge_between-straight n i j o)));
+}
 
 -- ---- networks with an empty set
 

@@ -3,3 +3,5 @@ pub mod NamesRead
 pub mod PlacesOfNames
 pub mod NamesLine
 pub mod FactLines
+pub mod PrintedLines
+pub mod ReadAgain

@@ -26,7 +26,7 @@ use Rattle.network_file.proofs.PlacesOfNames.{place_of-none}
 
 -- ---- the names of a line are names
 
-both : (a b : Bool) → a ≡ true → b ≡ true → a && b ≡ true
+pub both : (a b : Bool) → a ≡ true → b ≡ true → a && b ≡ true
 both a b p q = rw (p, q) refl
 
 names-step : (close named : Bool) (x : Lexeme) (xs : List Lexeme) (rest : Option (List (List ℕ) × List Lexeme)) (found : List (List ℕ) × List Lexeme)

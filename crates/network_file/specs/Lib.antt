@@ -1,6 +1,7 @@
 pub mod NetworkText
 pub mod LineForms
 pub mod NetworkFile
+pub mod ReadAgain
 pub use Rattle.network_words.specs.Network
 pub use Rattle.network_words.specs.Facts
 pub use Rattle.network_words.specs.NetFault

@@ -4,6 +4,7 @@
 mod facts;
 mod fault;
 mod forms;
+mod laws;
 mod names;
 mod reading;
 #[cfg(test)]
@@ -12,5 +13,6 @@ mod text_end;
 mod writing;
 
 pub use fault::FileFault;
+pub use laws::laws_of_files;
 pub use reading::read;
 pub use writing::text;

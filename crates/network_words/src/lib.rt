@@ -4,6 +4,8 @@
 mod fact;
 mod laws;
 mod net;
+#[cfg(test)]
+mod tests;
 
 pub use fact::Fact;
 pub use laws::laws_of_networks;

@@ -1,6 +1,5 @@
-use Rattle.std.proofs.Common.{◌≡◌, ◌∙◌, subst, arith}
+use Rattle.std.proofs.Common.{◌≡◌, ◌∙◌, arith}
 use Rattle.network_words.specs.Edge.{IsProperPair}
-use Rattle.closure_seq.specs.Worklist.{Worklist, IsTurn}
 use Rattle.closure_seq.proofs.Narrowings.{IsNetwork-lessened, IsLessened-nodes}
 use Rattle.closure_seq.proofs.Turns.{taken-nodes, IsSettledBut-taken, IsRowLooked-step, IsRowLooked-skip, IsRound-looked, IsEmptied-after, OnErr-from}
 use Rattle.closure_seq.proofs.closing.look_row.Goals as goal
@@ -37,8 +36,8 @@ loop-j-preserved g c =
     elim c.if-waits.branch [
       | then-waits+in_ok-look w ↦
           (let took = w.take.ensures.value in
-          let looked = IsRound-looked m b v w.look.new.net w.look.new.work i j w.take.ensures.sized pair (c.waits.ensures.0 w.if-waits.true)
-          (subst (λ (y : Worklist). IsTurn m b y w.look.new.net w.look.new.work) took w.in_ok-look.ensures.turn) w.in_ok-look.ensures.settled in
+          let looked = IsRound-looked m b v w.take.new.self w.look.new.net w.look.new.work i j w.take.ensures.sized pair (c.waits.ensures.0 w.if-waits.true) took
+          w.in_ok-look.ensures.turn w.in_ok-look.ensures.settled in
           rw (w.net-is, w.work-is, w.went-is)
           (IsRowLooked-step m a b w.look.new.net u v w.look.new.work c.loop-j.went i j p looked (w.in_ok-look.ensures.nodes ∙ taken-nodes v w.take.new.self i j took)))
       | else-waits w ↦ rw (w.net-is, w.work-is, w.went-is) (IsRowLooked-skip m a b u v c.loop-j.went i j (λ h. let t = c.waits.ensures.1 h in cc) p)

@@ -1,0 +1,321 @@
+-- The canonical text of a network is read as that network.
+use Rattle.std.proofs.Common.{◌≡◌, ◌≢◌, ℕ, zero, suc, ◌+◌, ◌^◌, ◌<◌, ◌≤◌, ◌==◌, ◌&&◌, ◌||◌, Bool, true, false, cond, nat_lt, List, [], ◌∷◌, ◌++◌, length, map, refl, sym, ◌∙◌, ap, subst, arith, add-one, ne_eqb, append_assoc, append-nil, slice_get, slice_index, Option, Some, None, Result, Ok, Err, option_and_then, is_some, unwrap_or, codes, decimal, bit_or, bytes_eq, ◌⊎◌, inl, inr, ◌↔◌}
+use Rattle.std.specs.Prelude.{All, bit_or}
+use lib.Bits.{or_zero_r}
+use Rattle.std.specs.Int.{bit_at}
+use Rattle.std.specs.Option.{ok_or}
+use Rattle.std.specs.List.{list_all, AllByRecursion}
+use Rattle.std.proofs.lemmas.Bool.{cases_lt, lt-ltb, eqb-true, eq-eqb, false_from_ne_true}
+use Rattle.std.proofs.lemmas.Bool.Decides.{nat_tests}
+use Rattle.std.proofs.lemmas.Slice.Eq.{bytes_eq-Decides}
+use Rattle.std.proofs.lemmas.List.Elements.{All-from_recursion, recursion_from_All}
+use Rattle.calculus_table.specs.Rel.{Has, IsWithin}
+use Rattle.calculus_table.specs.Meaning.{Meaning}
+use Rattle.calculus_table.specs.Composition.{full_of, union_below, if_has, converse}
+use Rattle.calculus_table.specs.Calculus.{Named, NamesItsBases, AreDistinct}
+use Rattle.calculus_table.proofs.Sets.{IsWithin-antisym, Has-single}
+use Rattle.calculus_table.proofs.Compositions.{InUnion, union_below-member, Has-union_below, if_has-member, Has-if_has, single-member, full-member}
+use Rattle.network_words.specs.Edge.{edge_at, edge_count}
+use Rattle.network_words.specs.Network.{Network, IsNetwork, IsShaped}
+use Rattle.network_words.specs.Facts.{Allows, IsNetOf}
+use Rattle.network_words.specs.declared.fact.Fact.{Fact}
+use Rattle.network_words.proofs.NetsOfFacts.{IsNetOf-unique}
+use Rattle.qsr_lex.specs.Lexemes.{Lexeme, kind_of}
+use Rattle.qsr_lex.specs.Names.{is_name}
+use Rattle.qsr_lex.specs.Numbers.{number_of}
+use Rattle.qsr_lex.specs.TextLines.{bad_line, line_count, readable_text}
+use Rattle.qsr_lex.specs.TokenLines.{TokenLine, token_lines, token_line}
+use Rattle.qsr_lex.specs.Words.{names_at, word_at, is_same_kind}
+use Rattle.qsr_lex.specs.Printed.{lexeme_from, printed, printed_token_lines}
+use Rattle.qsr_lex.specs.declared.tokens.TokenKind.TheVariants.{Word, Stop}
+use Rattle.qsr_lex.proofs.CleanLines.{readable_text-all}
+use Rattle.qsr_lex.proofs.PrintedText.{IsReadAgain-from_tokens}
+use Rattle.qsr_lex.proofs.PrintedNames.{IsPrintedSet-from_tests}
+use Rattle.qsr_lex.proofs.PrintedNumbers.{IsPrintedNumber-below}
+use Rattle.network_file.specs.LineForms.{nodes_form, names_form, behind_names, exactly, at_end, is_named, is_node_word, as_node, node_at, FactWords, fact_form, is_nothing, is_end_form}
+use Rattle.network_file.specs.NetworkText.{network_text}
+use Rattle.network_file.specs.NetworkFile.{◌>>=◌, Said, end_at, nodes_within, nodes_line, names_once, names_here, names_line, has_twice, place_of, numbered_node, node_by, node_of, set_from, differing, fact_line, closed, fact_lines, read_lines, read_network, IsNetworkOf, Says, IsFileOf}
+use Rattle.network_file.specs.ReadAgain.{IsPrintable}
+use Rattle.network_file.specs.declared.text_end.TextEnd.{TextEnd}
+use Rattle.network_file.specs.declared.text_end.TextEnd.TheVariants.{Whole}
+use Rattle.network_file.specs.declared.fault.FileFault.{FileFault}
+use Rattle.network_file.specs.declared.fault.FileFault.TheVariants.{Nodes, Syntax, NoNode, SelfEdge, Unknown}
+use Rattle.network_file.proofs.PlacesOfNames.{place_of-found}
+use Rattle.network_file.proofs.NamesLine.{has_twice-distinct, names_line-read}
+use Rattle.network_file.proofs.PrintedLines.{pairs_below, members_below, members_below-names, edge_words, names_words, names_lines, file_lines, network_text-printed, IsPair, file_tokens, pairs_below-pairs, Among, pairs_below-has}
+
+-- ---- a union over the members of a set, one base relation after another
+
+union_below-has : (a n all : ℕ) (f : ℕ → ℕ) → all ≡ union_below n (λ r. if_has a r (f r)) → Has a n → bit_or all (f n) ≡ union_below (n + 1) (λ r. if_has a r (f r))
+unfolding union_below
+union_below-has a n all f e h = rw (add-one, e, eq-eqb (bit_at a n) 1 h) refl
+
+union_below-has_not : (a n all : ℕ) (f : ℕ → ℕ) → all ≡ union_below n (λ r. if_has a r (f r)) → ¬ Has a n → all ≡ union_below (n + 1) (λ r. if_has a r (f r))
+unfolding union_below
+union_below-has_not a n all f e h = rw (add-one, e, ne_eqb (bit_at a n) 1 h) (sym (or_zero_r _))
+
+-- ---- one network at most
+
+abbrev said_from : ℕ → List (List ℕ) → List Fact → Said
+said_from n names facts = record { nodes = n; names = names; facts = facts }
+
+abbrev network_from : ℕ → ℕ → List ℕ → List (List ℕ) → Network
+network_from n f w m = record { nodes = n; full = f; words = w; names = m }
+
+pub file_is_of_one : (c : Named) (bytes : List ℕ) (net other : Network) → IsFileOf c bytes net → IsFileOf c bytes other → net ≡ other
+file_is_of_one c bytes net other p q =
+    let said : p.said ≡ q.said = same_ok p.said q.said (sym p.reads ∙ q.reads) in
+    let of : IsNetworkOf c q.said net = subst (λ s. IsNetworkOf c s net) said p.network in
+    let words : net.words ≡ other.words = IsNetOf-unique c.meaning q.said.nodes q.said.facts net.words other.words of.words q.network.words in
+    same_network net other (of.nodes ∙ sym q.network.nodes) (of.full ∙ sym q.network.full) words (of.names ∙ sym q.network.names)
+  where
+    same_ok : (a b : Said) → (let r : Result Said FileFault = Ok a in r) ≡ Ok b → a ≡ b
+    same_ok a b h = cc
+
+    same_network : (a b : Network) → a.nodes ≡ b.nodes → a.full ≡ b.full → a.words ≡ b.words → a.names ≡ b.names → a ≡ b
+    same_network a b n f w m =
+        ap (λ x. network_from x a.full a.words a.names) n ∙ ap (λ x. network_from b.nodes x a.words a.names) f
+        ∙ ap (λ x. network_from b.nodes b.full x a.names) w ∙ ap (λ x. network_from b.nodes b.full b.words x) m
+
+-- ---- the set of a line
+
+set_from-by : (bases : List (List ℕ)) (set : ℕ) (xs ys : List (List ℕ)) → ((s : ℕ) → set_from bases s (xs ++ ys) ≡ option_and_then (λ t. set_from bases t ys) (set_from bases s xs)) → (o : Option ℕ) →
+    option_and_then (λ r. set_from bases (bit_or set (2 ^ r)) (xs ++ ys)) o ≡ option_and_then (λ t. set_from bases t ys) (option_and_then (λ r. set_from bases (bit_or set (2 ^ r)) xs) o)
+set_from-by bases set xs ys h None = refl
+set_from-by bases set xs ys h (Some r) = h (bit_or set (2 ^ r))
+
+set_from-append : (bases : List (List ℕ)) (set : ℕ) (xs ys : List (List ℕ)) → set_from bases set (xs ++ ys) ≡ option_and_then (λ t. set_from bases t ys) (set_from bases set xs)
+set_from-append bases set [] ys = refl
+set_from-append bases set (x ∷ xs) ys = set_from-by bases set xs ys (λ s. set_from-append bases s xs ys) (place_of x bases)
+
+-- the members of a below k, as a set
+abbrev low : ℕ → ℕ → ℕ
+low a k = union_below k (λ r. if_has a r (2 ^ r))
+
+low-step : (bases : List (List ℕ)) (a r : ℕ) (w : List ℕ) (b : Bool) → (bit_at a r == 1) ≡ b → place_of w bases ≡ Some r → set_from bases (low a r) (cond b (w ∷ []) []) ≡ Some (low a (r + 1))
+low-step bases a r w true is place = ap (option_and_then (λ q. Some (bit_or (low a r) (2 ^ q)))) place ∙ ap Some (union_below-has a r (low a r) (λ q. 2 ^ q) refl (eqb-true (bit_at a r) 1 is))
+low-step bases a r w false is place = ap Some (union_below-has_not a r (low a r) (λ q. 2 ^ q) refl (λ h. false_true (sym is ∙ eq-eqb (bit_at a r) 1 h)))
+  where
+    false_true : (let x : Bool = false in x) ≡ true → ⊥
+    false_true h = cc
+
+name_there : (names : List (List ℕ)) (k : ℕ) → k < length names → slice_get names k ≡ Some (unwrap_or (slice_get names k) [])
+name_there [] k h = absurd (omega arith)
+name_there (x ∷ xs) zero h = refl
+name_there (x ∷ xs) (suc k) h = name_there xs k (omega arith)
+
+set_from-members : (names : List (List ℕ)) (a k : ℕ) → AreDistinct names → k ≤ length names → set_from names 0 (members_below names a k) ≡ Some (low a k)
+unfolding members_below union_below
+set_from-members names a zero d h = refl
+set_from-members names a (suc r) d h =
+    let w = unwrap_or (slice_get names r) [] in
+    set_from-append names 0 (members_below names a r) (cond (bit_at a r == 1) (w ∷ []) [])
+    ∙ ap (option_and_then (λ t. set_from names t (cond (bit_at a r == 1) (w ∷ []) []))) (set_from-members names a r d (omega arith))
+    ∙ low-step names a r w (bit_at a r == 1) refl (place_of-found names w r d (name_there names r (omega arith)))
+    ∙ ap (λ k. Some (low a k)) (let e : r + 1 ≡ suc r = omega arith in e)
+
+low-all : (m : Meaning) (a : ℕ) → IsWithin a (full_of m) → low a m.size ≡ a
+low-all m a w = IsWithin-antisym (low a m.size) a
+    (record {
+      each = λ t h.
+          let u : InUnion m.size (λ r. if_has a r (2 ^ r)) t = union_below-member m.size (λ r. if_has a r (2 ^ r)) t h in
+          let k = if_has-member a u.at (2 ^ u.at) t u.member in
+          subst (Has a) (sym (single-member u.at t k.1)) k.0;
+    })
+    (record { each = λ t h. Has-union_below m.size (λ r. if_has a r (2 ^ r)) t t (full-member m t (w.each t h)) (Has-if_has a t (2 ^ t) t h (Has-single t)) })
+
+-- ---- the first line
+
+small : (k : ℕ) → k < 129 → k < 10 ^ 18
+small k h = omega arith
+
+abbrev after_nodes : Named → TextEnd → ℕ × List TokenLine → Result Said FileFault
+after_nodes c end first = names_line first.0 first.1 >>= λ named. fact_lines c end first.0 named.0 [] named.1 >>= λ facts. Ok (record { nodes = first.0; names = named.0; facts = facts })
+
+nodes_test : (n : ℕ) → 0 < n → n ≤ 128 → (n == 0 || nat_lt 128 n) ≡ false
+nodes_test n some few = grind (arith, nat_tests)
+
+nodes_line-printed : (end : TextEnd) (line n : ℕ) (rest : List TokenLine) → 0 < n → n ≤ 128 → nodes_line end (token_line line (map lexeme_from (codes "nodes" ∷ decimal n ∷ [])) ∷ rest) ≡ Ok (n, rest)
+nodes_line-printed end line n rest some few =
+    let num = IsPrintedNumber-below n (small n (omega arith)) in
+    let form : nodes_form (map lexeme_from (codes "nodes" ∷ decimal n ∷ [])) ≡ Some n =
+    ap (λ k. option_and_then (λ (found : List ℕ × List Lexeme). option_and_then (λ nodes. at_end nodes found.1) (number_of found.0)) (cond (is_same_kind k Word) (Some (decimal n, [])) None)) num.word
+    ∙ ap (λ o. option_and_then (λ nodes. at_end nodes []) o) num.number in
+    ap (λ o. ok_or o (Syntax line) >>= λ said. nodes_within line said >>= λ nodes. Ok (nodes, rest)) form
+    ∙ ap (λ b. cond b (Err (Nodes line)) (Ok n) >>= λ nodes. Ok (nodes, rest)) (nodes_test n some few)
+
+-- ---- the line of names
+
+named_form : (n : ℕ) (names : List (List ℕ)) → list_all is_name names ≡ true → length names ≡ n → names_form n (map lexeme_from ((40 ∷ []) ∷ (names ++ (41 ∷ []) ∷ []))) ≡ Some names
+named_form n names all l =
+    ap (λ o. option_and_then (λ (found : List (List ℕ) × List Lexeme). option_and_then (λ ns. at_end ns found.1) (exactly n found.0)) o) (IsPrintedSet-from_tests names [] all).read
+    ∙ ap (λ b. option_and_then (λ ns. at_end ns []) (cond b (Some names) None)) (eq-eqb (length names) n l)
+
+none_some : (i : ℕ) → (let o : Option ℕ = None in o) ≡ Some i → ⊥
+none_some i h = cc
+
+no_names_word : (i : ℕ) (rest : List Lexeme) → i < 128 → behind_names (lexeme_from (decimal i) ∷ rest) ≡ None
+no_names_word i rest few =
+    let num = IsPrintedNumber-below i (small i (omega arith)) in
+    let other : bytes_eq (decimal i) (codes "names") ≡ false =
+    false_from_ne_true (bytes_eq (decimal i) (codes "names")) (λ t. none_some i (sym (ap number_of ((bytes_eq-Decides (decimal i) (codes "names")).0 t)) ∙ num.number)) in
+    ap (λ k. cond (is_same_kind k Word && bytes_eq (decimal i) (codes "names")) (Some rest) None) num.word ∙ ap (λ b. cond b (Some rest) None) other
+
+abbrev end_line : List (List (List ℕ))
+end_line = ((46 ∷ []) ∷ []) ∷ []
+
+abbrev line_behind : List (List ℕ) → ℕ
+line_behind [] = 2
+line_behind (x ∷ xs) = 3
+
+names_line-printed : (c : Named) (net : Network) (ps : List (ℕ × ℕ)) (names : List (List ℕ)) → net.nodes ≤ 128 → AllByRecursion (IsPair net.nodes) ps → list_all is_name names ≡ true → AreDistinct names →
+    (0 < length names → length names ≡ net.nodes) →
+    names_line net.nodes (printed_token_lines 2 (names_lines names ++ (map (edge_words c net) ps ++ end_line))) ≡ Ok (names, printed_token_lines (line_behind names) (map (edge_words c net) ps ++ end_line))
+names_line-printed c net [] [] few pairs all d l = refl
+names_line-printed c net (p ∷ ps) [] few pairs all d l =
+    let first : p.0 < 128 = omega (arith, pairs.0.order, pairs.0.below) in
+    let lines = printed_token_lines 2 (map (edge_words c net) (p ∷ ps) ++ end_line) in
+    let rest = map lexeme_from (decimal p.1 ∷ (40 ∷ []) ∷ (members_below c.names (slice_index net.words (edge_at net.nodes p.0 p.1)) c.meaning.size ++ (41 ∷ []) ∷ [])) in
+    ap (names_here net.nodes (token_line 2 (lexeme_from (decimal p.0) ∷ rest)) (printed_token_lines 3 (map (edge_words c net) ps ++ end_line))) (no_names_word p.0 rest first)
+names_line-printed c net ps (x ∷ xs) few pairs all d l =
+    names_line-read net.nodes 2 _ (printed_token_lines 3 (map (edge_words c net) ps ++ end_line)) (map lexeme_from (names_words (x ∷ xs)))
+    (map lexeme_from ((40 ∷ []) ∷ ((x ∷ xs) ++ (41 ∷ []) ∷ []))) (x ∷ xs) refl refl (named_form net.nodes (x ∷ xs) all (l (omega arith))) (has_twice-distinct (x ∷ xs) d)
+
+-- ---- the line of a fact
+
+abbrev fact_from : ℕ → ℕ → ℕ → Fact
+fact_from i j set = record { i = i; j = j; rel = set }
+
+abbrev words_from : List ℕ → List ℕ → List (List ℕ) → FactWords
+words_from i j set = record { first = i; second = j; set = set }
+
+abbrev fact_at : Network → ℕ × ℕ → Fact
+fact_at net p = fact_from p.0 p.1 (slice_index net.words (edge_at net.nodes p.0 p.1))
+
+node_at-printed : (named : Bool) (i : ℕ) (rest : List Lexeme) → i < 128 → node_at named (lexeme_from (decimal i) ∷ rest) ≡ Some (decimal i, rest)
+node_at-printed named i rest few =
+    let num = IsPrintedNumber-below i (small i (omega arith)) in
+    ap (λ k. option_and_then (λ found. as_node named found) (cond (is_same_kind k Word) (Some (decimal i, rest)) None)) num.word
+    ∙ ap (λ o. cond (is_some o || (named && is_name (decimal i))) (Some (decimal i, rest)) None) num.number
+
+fact_form-printed : (named : Bool) (i j : ℕ) (ms : List (List ℕ)) → i < 128 → j < 128 → list_all is_name ms ≡ true →
+    fact_form named (map lexeme_from (decimal i ∷ decimal j ∷ (40 ∷ []) ∷ (ms ++ (41 ∷ []) ∷ []))) ≡ Some (words_from (decimal i) (decimal j) ms)
+fact_form-printed named i j ms few more all =
+    let behind = map lexeme_from ((40 ∷ []) ∷ (ms ++ (41 ∷ []) ∷ [])) in
+    ap (λ o. option_and_then (λ (first : List ℕ × List Lexeme). option_and_then (λ (second : List ℕ × List Lexeme). option_and_then (λ (set : List (List ℕ) × List Lexeme). at_end (words_from first.0 second.0 set.0) set.1) (names_at second.1)) (node_at named first.1)) o)
+    (node_at-printed named i (lexeme_from (decimal j) ∷ behind) few)
+    ∙ ap (λ o. option_and_then (λ (second : List ℕ × List Lexeme). option_and_then (λ (set : List (List ℕ) × List Lexeme). at_end (words_from (decimal i) second.0 set.0) set.1) (names_at second.1)) o) (node_at-printed named j behind more)
+    ∙ ap (λ o. option_and_then (λ (set : List (List ℕ) × List Lexeme). at_end (words_from (decimal i) (decimal j) set.0) set.1) o) (IsPrintedSet-from_tests ms [] all).read
+
+node_of-printed : (n line i : ℕ) (names : List (List ℕ)) → i < 128 → i < n → node_of n names line (decimal i) ≡ Ok i
+node_of-printed n line i names few below =
+    ap (node_by n names line (decimal i)) (IsPrintedNumber-below i (small i (omega arith))).number ∙ ap (λ b. cond b (Ok i) (Err (NoNode line))) (lt-ltb i n below)
+
+abbrev set_step : Named → ℕ → List (List ℕ) → ℕ → ℕ → Result Fact FileFault
+set_step c line ms i j = ok_or (set_from c.names 0 ms) (Unknown line) >>= λ set. Ok (fact_from i j set)
+
+abbrev differ_step : Named → ℕ → List (List ℕ) → ℕ → ℕ → Result Fact FileFault
+differ_step c line ms i k = differing line i k >>= λ j. set_step c line ms i j
+
+abbrev second_step : Named → ℕ → List (List ℕ) → ℕ → List ℕ → List (List ℕ) → ℕ → Result Fact FileFault
+second_step c n names line word ms i = node_of n names line word >>= λ k. differ_step c line ms i k
+
+abbrev first_step : Named → ℕ → List (List ℕ) → ℕ → FactWords → Result Fact FileFault
+first_step c n names line words = node_of n names line words.first >>= λ i. second_step c n names line words.second words.set i
+
+other_test : (i j : ℕ) → i < j → (i == j) ≡ false
+other_test i j h = grind (arith, nat_tests)
+
+fact_line-printed : (c : Named) (net : Network) (line : ℕ) (p : ℕ × ℕ) → IsPrintable c net → IsPair net.nodes p → fact_line c net.nodes net.names (token_line line (map lexeme_from (edge_words c net p))) ≡ Ok (fact_at net p)
+fact_line-printed c net line p h pair =
+    let a = slice_index net.words (edge_at net.nodes p.0 p.1) in
+    let ms = members_below c.names a c.meaning.size in
+    let below : p.0 < net.nodes = omega (arith, pair.order, pair.below) in
+    let few : p.0 < 128 = omega (arith, h.shape.bounded, below) in
+    let more : p.1 < 128 = omega (arith, h.shape.bounded, pair.below) in
+    let one_each : length c.names ≡ c.meaning.size = h.calculus.one_each in
+    let names = members_below-names c.names a c.meaning.size (omega (arith, one_each)) h.bases in
+    ap (λ o. ok_or o (Syntax line) >>= first_step c net.nodes net.names line) (fact_form-printed (is_named net.names) p.0 p.1 ms few more names)
+    ∙ ap (λ s. s >>= second_step c net.nodes net.names line (decimal p.1) ms) (node_of-printed net.nodes line p.0 net.names few below)
+    ∙ ap (λ s. s >>= differ_step c line ms p.0) (node_of-printed net.nodes line p.1 net.names more pair.below)
+    ∙ ap (λ b. cond b (Err (SelfEdge line)) (Ok p.1) >>= set_step c line ms p.0) (other_test p.0 p.1 pair.order)
+    ∙ ap (λ o. ok_or o (Unknown line) >>= λ set. Ok (fact_from p.0 p.1 set)) (set_from-members c.names a c.meaning.size h.calculus.distinct (omega (arith, one_each)))
+    ∙ ap (λ set. Ok (fact_from p.0 p.1 set)) (low-all c.meaning a (h.words.within (edge_at net.nodes p.0 p.1)))
+
+-- ---- the lines of facts
+
+fact_no_end : (c : Named) (net : Network) (p : ℕ × ℕ) → p.0 < 128 → is_end_form (map lexeme_from (edge_words c net p)) ≡ false
+fact_no_end c net p few =
+    let rest = map lexeme_from (decimal p.1 ∷ (40 ∷ []) ∷ (members_below c.names (slice_index net.words (edge_at net.nodes p.0 p.1)) c.meaning.size ++ (41 ∷ []) ∷ [])) in
+    ap (λ k. is_nothing (cond (is_same_kind k Stop) (Some rest) None)) (IsPrintedNumber-below p.0 (small p.0 (omega arith))).word
+
+fact_lines-printed : (c : Named) (net : Network) (k line : ℕ) (ps : List (ℕ × ℕ)) (facts : List Fact) → IsPrintable c net → AllByRecursion (IsPair net.nodes) ps →
+    fact_lines c (Whole k) net.nodes net.names facts (printed_token_lines line (map (edge_words c net) ps ++ end_line)) ≡ Ok (facts ++ map (fact_at net) ps)
+fact_lines-printed c net k line [] facts h pairs = ap Ok (sym (append-nil facts))
+fact_lines-printed c net k line (p ∷ ps) facts h pairs =
+    let few : p.0 < 128 = omega (arith, h.shape.bounded, pairs.0.order, pairs.0.below) in
+    let behind = printed_token_lines (line + 1) (map (edge_words c net) ps ++ end_line) in
+    let l = token_line line (map lexeme_from (edge_words c net p)) in
+    ap (λ b. cond b (closed (Whole k) facts behind) (fact_line c net.nodes net.names l >>= λ fact. fact_lines c (Whole k) net.nodes net.names (facts ++ fact ∷ []) behind)) (fact_no_end c net p few)
+    ∙ ap (λ s. s >>= λ fact. fact_lines c (Whole k) net.nodes net.names (facts ++ fact ∷ []) behind) (fact_line-printed c net line p h pairs.0)
+    ∙ fact_lines-printed c net k (line + 1) ps (facts ++ fact_at net p ∷ []) h pairs.1
+    ∙ ap Ok (append_assoc facts (fact_at net p ∷ []) (map (fact_at net) ps))
+
+-- ---- the net of the facts
+
+all_allow : (c : Named) (net : Network) (i j t : ℕ) (ps : List (ℕ × ℕ)) → i < j → Has (slice_index net.words (edge_at net.nodes i j)) t → AllByRecursion (IsPair net.nodes) ps →
+    AllByRecursion (Allows c.meaning i j t) (map (fact_at net) ps)
+all_allow c net i j t [] o h pairs = tt
+all_allow c net i j t (p ∷ ps) o h pairs = (
+  record {
+    straight = λ x y. subst (λ q. Has (slice_index net.words (edge_at net.nodes p.0 q)) t) (sym y) (subst (λ q. Has (slice_index net.words (edge_at net.nodes q j)) t) (sym x) h);
+    turned = λ x y. absurd (omega (arith, pairs.0.order));
+  },
+  all_allow c net i j t ps o h pairs.1,
+)
+
+allowed_at : (c : Named) (net : Network) (i j t : ℕ) (ps : List (ℕ × ℕ)) → Among i j ps → AllByRecursion (Allows c.meaning i j t) (map (fact_at net) ps) → Has (slice_index net.words (edge_at net.nodes i j)) t
+allowed_at c net i j t [] m h = absurd m
+allowed_at c net i j t (p ∷ ps) m h = elim m [
+  | inl here ↦ subst (λ q. Has (slice_index net.words (edge_at net.nodes i q)) t) here.1 (subst (λ q. Has (slice_index net.words (edge_at net.nodes q p.1)) t) here.0 (h.0.straight here.0 here.1))
+  | inr later ↦ allowed_at c net i j t ps later h.1
+]
+
+net_of_edges : (c : Named) (net : Network) → IsPrintable c net → IsNetOf c.meaning net.nodes (map (fact_at net) (pairs_below net.nodes net.nodes)) net.words
+net_of_edges c net h =
+    let n = net.nodes in
+    let ps = pairs_below n n in
+    record {
+      length_is = h.words.length_is;
+      members = λ i j t o b. (
+        λ x. (full-member c.meaning t ((h.words.within (edge_at n i j)).each t x), All-from_recursion (Allows c.meaning i j t) (map (fact_at net) ps) (all_allow c net i j t ps o x (pairs_below-pairs n n))),
+        λ x. allowed_at c net i j t ps (pairs_below-has n i j n (omega arith) o b) (recursion_from_All (Allows c.meaning i j t) (map (fact_at net) ps) x.1),
+      );
+    }
+
+-- ---- the whole text
+
+pub printed_is_read : (c : Named) (net : Network) → IsPrintable c net → IsFileOf c (network_text c net) net
+printed_is_read c net h =
+    let n = net.nodes in
+    let few : n ≤ 128 = h.shape.bounded in
+    let some : 0 < n = h.shape.some in
+    let ps = pairs_below n n in
+    let pairs = pairs_below-pairs n n in
+    let edges = map (edge_words c net) ps ++ end_line in
+    let text = printed (file_lines c net ps) in
+    let again = IsReadAgain-from_tokens (file_lines c net ps) (file_tokens c net ps few h.calculus.one_each h.bases h.names pairs) in
+    let facts = map (fact_at net) ps in
+    let end : TextEnd = Whole (line_count text) in
+    record {
+      said = record { nodes = n; names = net.names; facts = facts };
+      reads =
+          ap (read_network c) (network_text-printed c net h.shape.named)
+          ∙ ap (λ x. read_lines c (end_at x (line_count text)) (token_lines (readable_text text))) again.clean
+          ∙ ap (λ x. read_lines c end (token_lines x)) (readable_text-all text again.clean)
+          ∙ ap (read_lines c end) again.words
+          ∙ ap (λ s. s >>= after_nodes c end) (nodes_line-printed end 1 n (printed_token_lines 2 (names_lines net.names ++ edges)) some few)
+          ∙ ap (λ s. s >>= λ (named : List (List ℕ) × List TokenLine). fact_lines c end n named.0 [] named.1 >>= λ fs. Ok (said_from n named.0 fs)) (names_line-printed c net ps net.names few pairs h.names h.shape.distinct h.shape.named)
+          ∙ ap (λ s. s >>= λ fs. Ok (said_from n net.names fs)) (fact_lines-printed c net (line_count text) (line_behind net.names) ps [] h pairs);
+      network = record { nodes = refl; full = h.full; names = refl; words = net_of_edges c net h };
+    }
