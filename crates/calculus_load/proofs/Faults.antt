@@ -1,12 +1,12 @@
 -- How a fault of a part is the fault of the whole.
 use Rattle.std.proofs.Common.{◌≡◌, None, Result, Ok, Err, IfErr, refl, sym, ap, ◌∙◌, subst}
-use Rattle.calculus_table.specs.Calculus.{Named}
+use Rattle.calculus_table.specs.Calculus.{Named, NamesItsBases}
 use Rattle.calculus_table.specs.TableFault.{IsFaultOf}
 use Rattle.calculus_table.specs.declared.calculus.TableFault.{TableFault}
 use Rattle.calculus_table.specs.declared.calculus.TableFault.TheVariants.{NameTwice, NotInvolution, IdentityLaw, ConverseLaw, CycleLaw}
 use Rattle.calculus_table.specs.declared.calculus.TableFault.TheVariants as faults
 use Rattle.calculus_load.specs.Given.{Given, meaning_of, first_missing, with_converses, with_entries, complete}
-use Rattle.calculus_load.specs.TableFile.{fault_of, IsFaultIn, ◌then◌, IsLoadFaultOf}
+use Rattle.calculus_load.specs.TableFile.{fault_of, IsFaultIn, ◌then◌, IsTableFaultOf, IsLoadFaultOf}
 use Rattle.calculus_load.specs.declared.fault.LoadFault.{LoadFault}
 use Rattle.calculus_load.specs.declared.fault.LoadFault.TheVariants.{Syntax, Unknown, Missing, Twice, TooMany, Table, Memory}
 
@@ -50,3 +50,21 @@ IsLoadFaultOf-then r f (Table t) h = subst (λ x. IsLoadFaultOf (x then f) (Tabl
 -- a fact of the fault that an answer has
 pub same_fault : {A : Type 0} (r : Result A LoadFault) (P : LoadFault → Type 0) (e f : LoadFault) → r ≡ Err e → e ≡ f → P f → IfErr r P
 same_fault r P e f is same h = subst (λ x. IfErr x P) (sym is) (subst P (sym same) h)
+
+-- a calculus has no fault but want of memory
+lawful_table : (c : Named) (f : TableFault) → NamesItsBases c → IsTableFaultOf c f → ⊥
+lawful_table c faults.Memory h is = is
+lawful_table c (NameTwice at) h is = h.distinct is.here.earlier at is.here.is_earlier is.here.below is.here.same
+lawful_table c (NotInvolution r) h is = is.1.here (h.lawful.involution r is.1.below)
+lawful_table c (IdentityLaw r) h is = is.1.1.here (h.lawful.identity r is.1.1.below)
+lawful_table c (ConverseLaw r s t) h is = is.1.2.here (h.lawful.converse r s t is.1.2.first_below is.1.2.second_below is.1.2.below)
+lawful_table c (CycleLaw r s t) h is = is.1.3.here (h.lawful.cycle r s t is.1.3.first_below is.1.3.second_below is.1.3.below)
+
+pub lawful_fault : (c : Named) (f : LoadFault) → NamesItsBases c → IsLoadFaultOf (Ok c) f → f ≡ Memory
+lawful_fault c Memory h is = refl
+lawful_fault c (Syntax n) h is = absurd is
+lawful_fault c (Unknown n) h is = absurd is
+lawful_fault c (Missing n s) h is = absurd is
+lawful_fault c (Twice n) h is = absurd is
+lawful_fault c (TooMany n) h is = absurd is
+lawful_fault c (Table f) h is = absurd (lawful_table c f h is)

@@ -1,11 +1,14 @@
 -- What the forms of lines have in common.
-use Rattle.std.proofs.Common.{◌≡◌, ℕ, Bool, true, false, cond, ◌&&◌, List, [], ◌∷◌, Option, Some, None, option_map, option_and_then, codes, refl, ap, ◌∙◌, subst}
+use Rattle.std.proofs.Common.{◌≡◌, ℕ, Bool, true, false, cond, ◌&&◌, List, [], ◌∷◌, Option, Some, None, option_map, option_and_then, codes, refl, sym, ap, ◌∙◌, subst}
 use Rattle.std.specs.List.{list_all}
 use Rattle.qsr_lex.specs.Lexemes.{Lexeme}
 use Rattle.qsr_lex.specs.Names.{is_name}
-use Rattle.qsr_lex.specs.Words.{names_before_close, names_at, behind_kind, behind_word, is_name_token, is_same_kind}
-use Rattle.qsr_lex.specs.declared.tokens.TokenKind.TheVariants.{Word, Open, Close}
-use Rattle.calculus_load.specs.Statements.{at_end, some_names, names_line}
+use Rattle.qsr_lex.specs.Words.{name_at, names_before_close, names_at, behind_kind, behind_word, is_name_token, is_same_kind}
+use Rattle.qsr_lex.specs.declared.tokens.TokenKind.{TokenKind}
+use Rattle.qsr_lex.specs.declared.tokens.TokenKind.TheVariants.{Word, Open, Close, Comma, Colon, Colons, Stop}
+use Rattle.calculus_load.specs.Statements.{◌>>=◌, at_end, some_names, names_line, behind_colons, converse_line, behind_colon, entry_line, or_else, statement_line}
+use Rattle.calculus_load.specs.Names.{base_of}
+use Rattle.calculus_load.specs.declared.statement.Statement.{Statement}
 use Rattle.calculus_load.proofs.NamesRead.{and_r}
 
 abbrev Found : Type 0
@@ -57,3 +60,57 @@ words-names (Some rest) all h = found-names (names_at rest) all (λ f. names_at-
 -- what stands in a names line are names
 pub names_line-names : (words : List Lexeme) (names : List (List ℕ)) → names_line words ≡ Some names → list_all is_name names ≡ true
 names_line-names words names h = words-names (behind_word (codes "names") words) names h
+
+-- ---- a line with two colons behind its first name, and one with a single colon
+abbrev FoundName : Type 0
+FoundName = List ℕ × List Lexeme
+
+one_kind : (k : TokenKind) (xs ys : List Lexeme) → cond (is_same_kind k Colons) (Some xs) None ≡ Some ys → cond (is_same_kind k Colon) (Some xs) None ≡ None
+one_kind Word xs ys h = refl
+one_kind Open xs ys h = refl
+one_kind Close xs ys h = refl
+one_kind Comma xs ys h = refl
+one_kind Colon xs ys h = cc
+one_kind Colons xs ys h = refl
+one_kind Stop xs ys h = refl
+
+other_kind : (k : TokenKind) (xs ys : List Lexeme) → cond (is_same_kind k Colon) (Some xs) None ≡ Some ys → cond (is_same_kind k Colons) (Some xs) None ≡ None
+other_kind Word xs ys h = refl
+other_kind Open xs ys h = refl
+other_kind Close xs ys h = refl
+other_kind Comma xs ys h = refl
+other_kind Colon xs ys h = refl
+other_kind Colons xs ys h = cc
+other_kind Stop xs ys h = refl
+
+no_colon : (xs ys : List Lexeme) → behind_kind Colons xs ≡ Some ys → behind_kind Colon xs ≡ None
+no_colon [] ys h = refl
+no_colon (x ∷ xs) ys h = one_kind x.kind xs ys h
+
+no_colons : (xs ys : List Lexeme) → behind_kind Colon xs ≡ Some ys → behind_kind Colons xs ≡ None
+no_colons [] ys h = refl
+no_colons (x ∷ xs) ys h = other_kind x.kind xs ys h
+
+or_nothing : (o : Option Statement) → or_else o None ≡ o
+or_nothing None = refl
+or_nothing (Some s) = refl
+
+pub statement_line-colons : (names : List (List ℕ)) (words rest behind : List Lexeme) (text : List ℕ) → name_at words ≡ Some (text, rest) → behind_kind Colons rest ≡ Some behind
+    → behind_colons names (base_of names text) behind ≡ statement_line names words
+statement_line-colons names words rest behind text h k =
+    let converse : converse_line names words ≡ behind_colons names (base_of names text) behind =
+    ap (λ o. o >>= λ (first : FoundName). behind_kind Colons first.1 >>= behind_colons names (base_of names first.0)) h ∙ ap (λ o. o >>= behind_colons names (base_of names text)) k in
+    let entry : entry_line names words ≡ None =
+    ap (λ o. o >>= λ (first : FoundName). behind_kind Colon first.1 >>= behind_colon names (base_of names first.0)) h
+    ∙ ap (λ o. o >>= behind_colon names (base_of names text)) (no_colon rest behind k) in
+    sym (ap (λ o. or_else o (entry_line names words)) converse ∙ ap (or_else (behind_colons names (base_of names text) behind)) entry ∙ or_nothing (behind_colons names (base_of names text) behind))
+
+pub statement_line-colon : (names : List (List ℕ)) (words rest behind : List Lexeme) (text : List ℕ) → name_at words ≡ Some (text, rest) → behind_kind Colon rest ≡ Some behind
+    → behind_colon names (base_of names text) behind ≡ statement_line names words
+statement_line-colon names words rest behind text h k =
+    let converse : converse_line names words ≡ None =
+    ap (λ o. o >>= λ (first : FoundName). behind_kind Colons first.1 >>= behind_colons names (base_of names first.0)) h
+    ∙ ap (λ o. o >>= behind_colons names (base_of names text)) (no_colons rest behind k) in
+    let entry : entry_line names words ≡ behind_colon names (base_of names text) behind =
+    ap (λ o. o >>= λ (first : FoundName). behind_kind Colon first.1 >>= behind_colon names (base_of names first.0)) h ∙ ap (λ o. o >>= behind_colon names (base_of names text)) k in
+    sym (ap (λ o. or_else o (entry_line names words)) converse ∙ entry)

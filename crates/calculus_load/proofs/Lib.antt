@@ -5,3 +5,6 @@ pub mod Shapes
 pub mod Faults
 pub mod Forms
 pub mod LineCounts
+pub mod PrintedTable
+pub mod NamesAgain
+pub mod ReadAgain

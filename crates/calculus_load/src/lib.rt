@@ -1,6 +1,7 @@
 //! Table files: the canonical text of a calculus, and reading it.
 #![tactic(auto)]
 
+mod again;
 mod draft;
 mod fault;
 mod lines;
@@ -9,6 +10,7 @@ mod reading;
 mod statement;
 mod writing;
 
+pub use again::text_is_read_again;
 pub use fault::LoadFault;
 pub use reading::read;
 pub use writing::text;
