@@ -1,5 +1,5 @@
 -- The lines of facts, one after another.
-use Rattle.std.proofs.Common.{◌≡◌, ℕ, Bool, true, false, cond, List, [], ◌∷◌, ◌++◌, refl, sym, ◌∙◌, ap, subst, Ok, MatchBool}
+use Rattle.std.proofs.Common.{◌≡◌, Bool, true, false, cond, List, [], ◌∷◌, ◌++◌, sym, ◌∙◌, ap, subst, Ok, MatchBool}
 use Rattle.calculus_table.specs.Calculus.{Named}
 use Rattle.network_words.specs.Edge.{IsProperPair}
 use Rattle.network_words.specs.Network.{Network, met_at}

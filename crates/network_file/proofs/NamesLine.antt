@@ -1,10 +1,10 @@
 -- The line of names.
-use Rattle.std.proofs.Common.{◌≡◌, ◌≢◌, ℕ, zero, suc, ◌-◌, ◌<◌, ◌==◌, Bool, true, false, cond, ◌&&◌, ◌||◌, List, [], ◌∷◌, length, refl, sym, ◌∙◌, ap, subst, arith, slice_get, Option, Some, None, Result, Ok, Err, option_map, option_and_then, is_some, bytes_eq}
+use Rattle.std.proofs.Common.{◌≡◌, ℕ, zero, suc, ◌<◌, ◌==◌, Bool, true, false, cond, ◌&&◌, ◌||◌, List, [], ◌∷◌, length, refl, sym, ◌∙◌, ap, subst, arith, slice_get, Option, Some, None, Ok, Err, option_map, option_and_then, is_some, bytes_eq}
 use Rattle.std.specs.Option.{ok_or}
 use Rattle.std.specs.List.{list_all}
 use Rattle.std.proofs.lemmas.Option.{same_Some, slice_get_within}
 use Rattle.std.proofs.lemmas.Slice.Eq.{bytes_eq-Decides}
-use Rattle.calculus_table.specs.Calculus.{AreDistinct, RepeatsAt, IsFirstRepeat, Named}
+use Rattle.calculus_table.specs.Calculus.{AreDistinct, IsFirstRepeat, Named}
 use Rattle.calculus_table.specs.Composition.{full_of}
 use Rattle.network_words.specs.Edge.{edge_count}
 use Rattle.network_words.specs.Network.{Network}

@@ -1,11 +1,7 @@
 -- Names that are read one after another.
-use Rattle.std.proofs.Common.{◌≡◌, ℕ, ◌+◌, ◌<◌, Bool, true, false, not, zero, suc, lit<, ◌==◌, ◌&&◌, nat_le, List, [], ◌∷◌, ◌++◌, length, map, take, drop, get_or, Option, Some, None, IsUtf8, MatchResult, Result, Ok, Err, IsOk, rules, ◌||◌, refl, sym, ap, ◌∙◌, arith, cond, option_map, option_and_then}
+use Rattle.std.proofs.Common.{◌≡◌, ℕ, ◌+◌, ◌<◌, Bool, true, false, ◌&&◌, List, [], ◌∷◌, ◌++◌, length, map, take, drop, get_or, refl, sym, ap, ◌∙◌}
 use Rattle.std.specs.List.{list_all}
 use Rattle.std.proofs.lemmas.List.{drop-drop, take_more}
-use Rattle.std.proofs.lemmas.Str.{IsUtf8-from_ascii}
-use Rattle.std.proofs.lemmas.Bool.Decides.{nat_tests}
-use Rattle.qsr_lex.specs.Bytes.{is_allowed, is_word_byte}
-use Rattle.qsr_lex.specs.Names.{is_name, is_name_byte, starts_with_digit, is_stop}
 
 map-push : {A : Type 0} (v : A → List ℕ) (xs : List A) (x : A) → map v xs ++ (v x ∷ []) ≡ map v (xs ++ (x ∷ []))
 map-push v [] x = refl

@@ -1,5 +1,5 @@
 -- The canonical text of a network is printed of lines of tokens.
-use Rattle.std.proofs.Common.{◌≡◌, ◌≢◌, ℕ, zero, suc, ◌+◌, ◌^◌, ◌<◌, ◌≤◌, ◌==◌, ◌&&◌, Bool, true, false, cond, nat_lt, List, [], ◌∷◌, ◌++◌, length, map, take, drop, refl, sym, ◌∙◌, ap, subst, arith, add-one, append_assoc, append-nil, slice_get, slice_index, Option, Some, None, unwrap_or, codes, decimal, ◌⊎◌, inl, inr}
+use Rattle.std.proofs.Common.{◌≡◌, ℕ, zero, suc, ◌^◌, ◌<◌, ◌≤◌, ◌==◌, Bool, true, false, cond, nat_lt, List, [], ◌∷◌, ◌++◌, length, map, take, refl, sym, ◌∙◌, ap, subst, arith, append_assoc, append-nil, slice_get, slice_index, unwrap_or, codes, decimal, ◌⊎◌, inl, inr}
 use Rattle.std.specs.Int.{bit_at}
 use Rattle.std.specs.List.{list_all, flat_map, AllByRecursion}
 use Rattle.std.proofs.lemmas.Bool.{cases_lt, lt-ltb, ltb-true}
@@ -14,7 +14,7 @@ use Rattle.qsr_lex.specs.Names.{is_name}
 use Rattle.qsr_lex.specs.Printed.{is_token_text, are_tokens, spaced, printed_line, printed}
 use Rattle.qsr_lex.proofs.PrintedNames.{IsPrintedName-from_test}
 use Rattle.qsr_lex.proofs.PrintedNumbers.{IsPrintedNumber-below}
-use Rattle.network_file.specs.NetworkText.{text_below, word_text, member_text, set_text, edge_line, later_line, row_text, names_line, network_text}
+use Rattle.network_file.specs.NetworkText.{text_below, word_text, member_text, set_text, edge_line, later_line, row_text, network_text}
 use Rattle.network_file.proofs.NamesRead.{and_l, and_r}
 use Rattle.network_file.proofs.NamesLine.{both}
 

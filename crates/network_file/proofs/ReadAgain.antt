@@ -1,40 +1,40 @@
 -- The canonical text of a network is read as that network.
-use Rattle.std.proofs.Common.{◌≡◌, ◌≢◌, ℕ, zero, suc, ◌+◌, ◌^◌, ◌<◌, ◌≤◌, ◌==◌, ◌&&◌, ◌||◌, Bool, true, false, cond, nat_lt, List, [], ◌∷◌, ◌++◌, length, map, refl, sym, ◌∙◌, ap, subst, arith, add-one, ne_eqb, append_assoc, append-nil, slice_get, slice_index, Option, Some, None, Result, Ok, Err, option_and_then, is_some, unwrap_or, codes, decimal, bit_or, bytes_eq, ◌⊎◌, inl, inr, ◌↔◌}
-use Rattle.std.specs.Prelude.{All, bit_or}
+use Rattle.std.proofs.Common.{◌≡◌, ℕ, zero, suc, ◌+◌, ◌^◌, ◌<◌, ◌≤◌, ◌==◌, ◌&&◌, ◌||◌, Bool, true, false, cond, nat_lt, List, [], ◌∷◌, ◌++◌, length, map, refl, sym, ◌∙◌, ap, subst, arith, add-one, ne_eqb, append_assoc, append-nil, slice_get, slice_index, Option, Some, None, Result, Ok, Err, option_and_then, is_some, unwrap_or, codes, decimal, bit_or, bytes_eq, inl, inr}
+use Rattle.std.specs.Prelude.{bit_or}
 use lib.Bits.{or_zero_r}
 use Rattle.std.specs.Int.{bit_at}
 use Rattle.std.specs.Option.{ok_or}
 use Rattle.std.specs.List.{list_all, AllByRecursion}
-use Rattle.std.proofs.lemmas.Bool.{cases_lt, lt-ltb, eqb-true, eq-eqb, false_from_ne_true}
+use Rattle.std.proofs.lemmas.Bool.{lt-ltb, eqb-true, eq-eqb, false_from_ne_true}
 use Rattle.std.proofs.lemmas.Bool.Decides.{nat_tests}
 use Rattle.std.proofs.lemmas.Slice.Eq.{bytes_eq-Decides}
 use Rattle.std.proofs.lemmas.List.Elements.{All-from_recursion, recursion_from_All}
 use Rattle.calculus_table.specs.Rel.{Has, IsWithin}
 use Rattle.calculus_table.specs.Meaning.{Meaning}
-use Rattle.calculus_table.specs.Composition.{full_of, union_below, if_has, converse}
-use Rattle.calculus_table.specs.Calculus.{Named, NamesItsBases, AreDistinct}
+use Rattle.calculus_table.specs.Composition.{full_of, union_below, if_has}
+use Rattle.calculus_table.specs.Calculus.{Named, AreDistinct}
 use Rattle.calculus_table.proofs.Sets.{IsWithin-antisym, Has-single}
 use Rattle.calculus_table.proofs.Compositions.{InUnion, union_below-member, Has-union_below, if_has-member, Has-if_has, single-member, full-member}
-use Rattle.network_words.specs.Edge.{edge_at, edge_count}
-use Rattle.network_words.specs.Network.{Network, IsNetwork, IsShaped}
+use Rattle.network_words.specs.Edge.{edge_at}
+use Rattle.network_words.specs.Network.{Network}
 use Rattle.network_words.specs.Facts.{Allows, IsNetOf}
 use Rattle.network_words.specs.declared.fact.Fact.{Fact}
 use Rattle.network_words.proofs.NetsOfFacts.{IsNetOf-unique}
-use Rattle.qsr_lex.specs.Lexemes.{Lexeme, kind_of}
+use Rattle.qsr_lex.specs.Lexemes.{Lexeme}
 use Rattle.qsr_lex.specs.Names.{is_name}
 use Rattle.qsr_lex.specs.Numbers.{number_of}
-use Rattle.qsr_lex.specs.TextLines.{bad_line, line_count, readable_text}
+use Rattle.qsr_lex.specs.TextLines.{line_count, readable_text}
 use Rattle.qsr_lex.specs.TokenLines.{TokenLine, token_lines, token_line}
-use Rattle.qsr_lex.specs.Words.{names_at, word_at, is_same_kind}
+use Rattle.qsr_lex.specs.Words.{names_at, is_same_kind}
 use Rattle.qsr_lex.specs.Printed.{lexeme_from, printed, printed_token_lines}
 use Rattle.qsr_lex.specs.declared.tokens.TokenKind.TheVariants.{Word, Stop}
 use Rattle.qsr_lex.proofs.CleanLines.{readable_text-all}
 use Rattle.qsr_lex.proofs.PrintedText.{IsReadAgain-from_tokens}
 use Rattle.qsr_lex.proofs.PrintedNames.{IsPrintedSet-from_tests}
 use Rattle.qsr_lex.proofs.PrintedNumbers.{IsPrintedNumber-below}
-use Rattle.network_file.specs.LineForms.{nodes_form, names_form, behind_names, exactly, at_end, is_named, is_node_word, as_node, node_at, FactWords, fact_form, is_nothing, is_end_form}
+use Rattle.network_file.specs.LineForms.{nodes_form, names_form, behind_names, exactly, at_end, is_named, as_node, node_at, FactWords, fact_form, is_nothing, is_end_form}
 use Rattle.network_file.specs.NetworkText.{network_text}
-use Rattle.network_file.specs.NetworkFile.{◌>>=◌, Said, end_at, nodes_within, nodes_line, names_once, names_here, names_line, has_twice, place_of, numbered_node, node_by, node_of, set_from, differing, fact_line, closed, fact_lines, read_lines, read_network, IsNetworkOf, Says, IsFileOf}
+use Rattle.network_file.specs.NetworkFile.{◌>>=◌, Said, end_at, nodes_within, nodes_line, names_here, names_line, place_of, node_by, node_of, set_from, differing, fact_line, closed, fact_lines, read_lines, read_network, IsNetworkOf, IsFileOf}
 use Rattle.network_file.specs.ReadAgain.{IsPrintable}
 use Rattle.network_file.specs.declared.text_end.TextEnd.{TextEnd}
 use Rattle.network_file.specs.declared.text_end.TextEnd.TheVariants.{Whole}

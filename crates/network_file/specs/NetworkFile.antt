@@ -13,7 +13,7 @@ use Rattle.qsr_lex.specs.Lexemes.{Lexeme}
 use Rattle.qsr_lex.specs.Numbers.{number_of}
 use Rattle.qsr_lex.specs.TokenLines.{TokenLine, token_lines}
 use Rattle.qsr_lex.specs.TextLines.{bad_line, line_count, readable_text}
-use Rattle.network_file.specs.LineForms.{nodes_form, names_form, behind_names, FactWords, fact_form, is_named, is_end_form}
+use Rattle.network_file.specs.LineForms.{nodes_form, names_form, behind_names, fact_form, is_named, is_end_form}
 use Rattle.network_file.specs.declared.text_end.TextEnd.{TextEnd}
 use Rattle.network_file.specs.declared.text_end.TextEnd.TheVariants.{Whole, BadLine}
 use Rattle.network_file.specs.declared.fault.FileFault.{FileFault}

@@ -101,10 +101,7 @@ fn facts_are_met_and_turned(rt: HostRuntime) -> Result<(), Fail> {
     );
     let absent = [fact(0, 9, SAME)];
     assert!(rt; are_within(&c, &absent));
-    assert_eq!(rt;
-        net.add_facts(&c, &absent),
-        Err(NetFault::NoNode { at: 0 })
-    );
+    assert_eq!(rt; net.add_facts(&c, &absent), Err(NetFault::NoNode { at: 0 }));
     assert_eq!(rt; net.words(), words.as_slice());
     Ok(())
 }

@@ -4,7 +4,7 @@ use Rattle.std.specs.Prelude.{IfSome}
 use Rattle.std.specs.Io.KnownBytes.{Appends}
 use Rattle.qsr_outside.specs.Writing.{AppendsPart}
 use Rattle.qsr_top.specs.Output.{Output}
-use Rattle.qsr_top.specs.Answers.{Answers, WritesOutput, WritesPart, IsWritten}
+use Rattle.qsr_top.specs.Answers.{Answers, IsWritten}
 use Rattle.qsr_top.specs.declared.statuses.Status.{Status}
 use Rattle.qsr_top.specs.declared.statuses.Status.TheVariants.{Done, No, Usage, Refused, ReadFault, WriteFault, Memory, Budget, NotAccepted, TooLong}
 

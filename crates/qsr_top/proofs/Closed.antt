@@ -1,16 +1,15 @@
 -- From the answer that closing gives a network to the output for the bytes that state it.
-use Rattle.std.proofs.Common.{◌≡◌, ℕ, ◌≤◌, List, length, Result, Ok, Err}
+use Rattle.std.proofs.Common.{ℕ, ◌≤◌, List, length, Result, Ok, Err}
 use Rattle.std.specs.Prelude.{IfOk}
 use Rattle.std.specs.String.{string_bytes}
 use Rattle.calculus_builtin.specs.Rcc8.{rcc8_calculus}
 use Rattle.network_words.specs.Network.{Network}
 use Rattle.network_file.specs.NetworkFile.{IsFileOf}
-use Rattle.qsr_top.specs.Answers.{IsCloseStatus}
-use Rattle.qsr_top.specs.Output.{CloseOutput, ClosesNetwork, ClosesBytes}
+use Rattle.qsr_top.specs.Output.{CloseOutput, ClosesNetwork}
 use Rattle.qsr_top.specs.declared.TheConstants.{SOURCE_LIMIT}
 use Rattle.qsr_top.specs.declared.answers.Answer.{Answer}
 use Rattle.qsr_top.specs.declared.statuses.Status.{Status}
-use Rattle.qsr_top.specs.declared.statuses.Status.TheVariants.{Done, No, Usage, Refused, ReadFault, WriteFault, Memory, Budget, NotAccepted, TooLong}
+use Rattle.qsr_top.specs.declared.statuses.Status.TheVariants.{Done, No, Refused, TooLong}
 
 closed_output : (bytes : List ℕ) (net : Network) (text : List ℕ) (s : Status) → length bytes ≤ SOURCE_LIMIT → IsFileOf rcc8_calculus bytes net → ClosesNetwork net text s → CloseOutput bytes text s
 closed_output bytes net text Done l f h = (l, record { net = net; reads = f; closes = h })

@@ -9,7 +9,7 @@ use Rattle.calculus_table.specs.Composition.{full_of}
 use Rattle.calculus_table.specs.Calculus.{Named}
 use Rattle.calculus_table.proofs.Sets.{IsWithin-empty}
 use Rattle.calculus_table.proofs.Compositions.{Has-full}
-use Rattle.network_words.specs.Edge.{edge_count, edge_at}
+use Rattle.network_words.specs.Edge.{edge_count}
 use Rattle.network_words.specs.Network.{Network, IsNetwork}
 use Rattle.network_words.specs.Facts.{IsNetOf}
 use Rattle.network_words.specs.declared.fact.Fact.{Fact}

@@ -1,23 +1,21 @@
 -- One text and one status at most are permitted for words and bytes.
-use Rattle.std.proofs.Common.{◌≡◌, ℕ, ◌<◌, ◌≤◌, List, [], ◌∷◌, length, true, false, Err, refl, sym, ◌∙◌, ap, subst, arith, ◌⊎◌, inl, inr, codes}
-use Rattle.std.specs.Prelude.{Contains}
+use Rattle.std.proofs.Common.{◌≡◌, ℕ, ◌<◌, ◌≤◌, List, [], ◌∷◌, length, Err, refl, sym, ◌∙◌, ap, subst, arith, ◌⊎◌, inl, inr, codes}
 use Rattle.std.specs.Str.{bytes_eq}
 use Rattle.std.proofs.lemmas.Bool.{cases_Bool}
 use Rattle.std.proofs.lemmas.Slice.Eq.{bytes_eq-Decides}
 use Rattle.calculus_builtin.specs.Rcc8.{rcc8_calculus}
 use Rattle.network_words.specs.Network.{Network}
-use Rattle.network_words.specs.Closure.{IsClosure}
 use Rattle.network_words.proofs.Networks.{IsClosure-unique}
 use Rattle.network_file.specs.NetworkText.{network_text}
 use Rattle.network_file.specs.NetworkFile.{read_network}
 use Rattle.network_file.specs.declared.fault.FileFault.{FileFault}
 use Rattle.network_file.specs.declared.fault.FileFault.TheVariants as file
 use Rattle.qsr_top.specs.Reading.{Refuses, IsNumbered}
-use Rattle.qsr_top.specs.Output.{Output, CloseOutput, UsageOutput, ClosesBytes, ClosesNetwork, IsClosureText, IsVerdict, close_words, refusal_text}
+use Rattle.qsr_top.specs.Output.{Output, CloseOutput, ClosesBytes, ClosesNetwork, IsClosureText, IsVerdict, close_words, refusal_text}
 use Rattle.qsr_top.specs.declared.TheConstants.{SOURCE_LIMIT}
 use Rattle.qsr_top.specs.declared.statuses.Place.{Place}
 use Rattle.qsr_top.specs.declared.statuses.Status.{Status}
-use Rattle.qsr_top.specs.declared.statuses.Status.TheVariants.{Done, No, Usage, Refused, ReadFault, WriteFault, Memory, Budget, NotAccepted, TooLong}
+use Rattle.qsr_top.specs.declared.statuses.Status.TheVariants.{Done, No, Refused, TooLong}
 use Rattle.qsr_top.proofs.FileNetworks.{file_is_one}
 
 -- the same text and the same status

@@ -1,12 +1,12 @@
 -- What a run leaves in its sink, by its status.
-use Rattle.std.specs.Prelude.{◌≡◌, ℕ, List, Option, Result, Ok, Err}
+use Rattle.std.specs.Prelude.{ℕ, List, Option, Result, Err}
 use Rattle.std.specs.Io.KnownBytes.{Appends, Keeps}
 use Rattle.qsr_outside.specs.Writing.{AppendsPart}
 use Rattle.qsr_outside.specs.declared.reading.ReadStop.{ReadStop}
 use Rattle.qsr_outside.specs.declared.reading.ReadStop.TheVariants as stop
 use Rattle.qsr_top.specs.Output.{Output}
 use Rattle.qsr_top.specs.declared.statuses.Status.{Status}
-use Rattle.qsr_top.specs.declared.statuses.Status.TheVariants.{Done, No, Usage, Refused, ReadFault, WriteFault, Memory, Budget, NotAccepted, TooLong}
+use Rattle.qsr_top.specs.declared.statuses.Status.TheVariants.{Done, No, Usage, Refused, ReadFault, WriteFault, Memory, TooLong}
 
 -- the bytes held, where told, grew by a whole text that is permitted with this status
 pub record WritesOutput (words : List (List ℕ)) (bytes : List ℕ) (old new : Option (List ℕ)) (status : Status) : Type 0 where

@@ -10,7 +10,7 @@ use Rattle.qsr_top.specs.Reading.{Refuses}
 use Rattle.qsr_top.specs.declared.TheConstants.{SOURCE_LIMIT}
 use Rattle.qsr_top.specs.declared.statuses.Place.{Place}
 use Rattle.qsr_top.specs.declared.statuses.Status.{Status}
-use Rattle.qsr_top.specs.declared.statuses.Status.TheVariants.{Done, No, Usage, Refused, ReadFault, WriteFault, Memory, Budget, NotAccepted, TooLong}
+use Rattle.qsr_top.specs.declared.statuses.Status.TheVariants.{Done, No, Usage, Refused, TooLong}
 
 -- the words of the command that closes a network of regions
 abbrev pub close_words : List (List ℕ)

@@ -1,4 +1,4 @@
-use Rattle.std.proofs.Common.{◌≡◌, sym, ap, ◌∙◌}
+use Rattle.std.proofs.Common.{ap, ◌∙◌}
 use Rattle.std.specs.Option.{ok_or}
 use Rattle.network_file.specs.NetworkFile.{node_by}
 use Rattle.network_file.specs.declared.fault.FileFault.TheVariants.{Unknown}

@@ -1,6 +1,6 @@
-use Rattle.std.proofs.Common.{◌≡◌, IfOk, IfErr, ap, ◌∙◌, subst}
+use Rattle.std.proofs.Common.{IfOk, IfErr, ap, ◌∙◌, subst}
 use Rattle.qsr_lex.specs.TokenLines.{by_line}
-use Rattle.network_file.specs.NetworkFile.{FailsWith, Says, read_lines, read_network}
+use Rattle.network_file.specs.NetworkFile.{FailsWith, Says}
 use Rattle.network_file.proofs.NamesLine.{reads_text}
 use Rattle.network_file.proofs.reading.read.Goals as goal
 

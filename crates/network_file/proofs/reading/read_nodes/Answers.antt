@@ -1,4 +1,4 @@
-use Rattle.std.proofs.Common.{ℕ, ◌≡◌, List, [], replicate, ap, ◌∙◌}
+use Rattle.std.proofs.Common.{ℕ, [], replicate, ap, ◌∙◌}
 use Rattle.network_words.specs.Edge.{edge_count}
 use Rattle.network_words.specs.Network.{Network}
 use Rattle.network_file.proofs.NamesLine.{fresh_network}

@@ -1,4 +1,3 @@
-use Rattle.std.proofs.Common.{◌≡◌}
 use Rattle.qsr_top.proofs.FileNetworks.{IsNetwork-from_file}
 use Rattle.qsr_top.proofs.Closed.{closes_output}
 use Rattle.qsr_top.proofs.closing.close_bytes.Goals as goal

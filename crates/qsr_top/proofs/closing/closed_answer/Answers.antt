@@ -1,4 +1,3 @@
-use Rattle.std.proofs.Common.{◌≡◌}
 use Rattle.qsr_top.proofs.closing.closed_answer.Goals as goal
 
 pub returns-clause-output : goal.returns-clause-output

@@ -1,5 +1,4 @@
 use Rattle.std.proofs.Common.{◌≡◌, codes, sym, ◌∙◌}
-use Rattle.std.specs.Str.{bytes_eq}
 use Rattle.std.specs.String.{string_bytes}
 use Rattle.std.proofs.lemmas.Slice.Eq.{bytes_eq-Decides}
 use Rattle.qsr_top.proofs.Words.{Decides-two_words}

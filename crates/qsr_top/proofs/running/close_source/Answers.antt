@@ -1,4 +1,4 @@
-use Rattle.std.proofs.Common.{◌≡◌, subst}
+use Rattle.std.proofs.Common.{subst}
 use Rattle.std.specs.String.{string_bytes}
 use Rattle.qsr_top.specs.Output.{CloseOutput}
 use Rattle.qsr_top.proofs.Answering.{IfSome-along}

@@ -1,7 +1,5 @@
-use Rattle.std.proofs.Common.{◌≡◌, map}
+use Rattle.std.proofs.Common.{map}
 use Rattle.std.specs.String.{string_bytes}
-use Rattle.qsr_top.specs.Output.{Output}
-use Rattle.qsr_top.specs.Answers.{Answers}
 use Rattle.qsr_top.proofs.Answering.{IfSome-weaker, written_answer}
 use Rattle.qsr_top.proofs.running.run.Goals as goal
 
