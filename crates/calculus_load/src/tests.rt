@@ -1,6 +1,8 @@
 use super::{LoadFault, read, text};
+use calculus_builtin::{allen, point, rcc8};
 use calculus_table::{Calculus, TableFault};
 use std::alloc::{AllocError, Global};
+use std::process::Abort;
 use std::test::Fail;
 
 /// The table file of Ramsey's calculus of two colours.
@@ -317,5 +319,22 @@ fn rcc8_is_read_and_written_again(rt: HostRuntime) -> Result<(), Fail> {
         read_all(alloc, both.as_bytes()).err(),
         Some(LoadFault::Table(fault))
     );
+    Ok(())
+}
+
+/// The canonical text of a calculus is read as a calculus with that text.
+fn is_read_again(rt: &impl Abort, alloc: Global, c: &Calculus) -> Result<(), LoadFault> {
+    let file = text(alloc, c).map_err(|_| LoadFault::Memory)?;
+    let again = canonical(alloc, file.as_bytes())?;
+    assert_eq!(rt; again, file);
+    Ok(())
+}
+
+#[test]
+fn built_in_calculi_are_read_again(rt: HostRuntime) -> Result<(), Fail> {
+    let alloc = rt.alloc();
+    is_read_again(&rt, alloc, &rcc8(alloc)?)?;
+    is_read_again(&rt, alloc, &allen(alloc)?)?;
+    is_read_again(&rt, alloc, &point(alloc)?)?;
     Ok(())
 }

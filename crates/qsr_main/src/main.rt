@@ -3,14 +3,11 @@
 
 mod streams;
 
-use std::env;
-use std::io;
-use std::process::ExitCode;
-use std::rt::Env;
-
 use qsr_outside::NoGate;
 use qsr_top::{Status, run};
-
+use std::process::ExitCode;
+use std::rt::Env;
+use std::{env, io};
 use streams::{NoShelf, StdSink, StdSource};
 
 /// The arguments behind the program's name.

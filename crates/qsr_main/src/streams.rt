@@ -1,6 +1,5 @@
-use std::io::{Read, Stdin, Stdout, Write};
-
 use qsr_outside::{Failed, Shelf, Sink, Source};
+use std::io::{Read, Stdin, Stdout, Write};
 
 /// Standard input. It tells nothing of its bytes.
 #[derive(Debug, Drop)]
