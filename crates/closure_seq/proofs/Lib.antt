@@ -1,3 +1,4 @@
 pub mod Narrowings
 pub mod Worklists
 pub mod Turns
+pub mod Starts

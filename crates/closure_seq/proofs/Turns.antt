@@ -62,7 +62,7 @@ pub pair-from_edge : (n a b i j : ℕ) → IsProperPair n a b → IsProperPair n
 pair-from_edge n a b i j p q e =
     pair-from (edge_at n) n (λ a b i j o u o' v h. (edge_at-first n a b i j o u o' v h, edge_at-second n a b i j o u o' v h)) a b i j p q e
 
-place-inside : (n i k : ℕ) → IsProperPair n i k → edge_place n i k < n * n
+pub place-inside : (n i k : ℕ) → IsProperPair n i k → edge_place n i k < n * n
 place-inside n i k p = elim (cases_lt i k) [
   | inl h ↦ rw (edge_place-straight n i k h) (place_below n i k p.first_below p.second_below)
   | inr h ↦ rw (edge_place-turned n i k h) (place_below n k i p.second_below p.first_below)
@@ -294,7 +294,7 @@ emptied-along m net work net' work' i j k x along met c k-net t empty p =
 
 -- ---- settled triples
 
-Waits-turn : (work : Worklist) (i j : ℕ) → i ≢ j → Waits work i j → Waits work j i
+pub Waits-turn : (work : Worklist) (i j : ℕ) → i ≢ j → Waits work i j → Waits work j i
 Waits-turn work i j d h = subst (λ e. get_or work.waits e false ≡ true) (edge_place-turn work.nodes i j d) h
 
 IsClosedAt-mirror : (m : Meaning) (n : ℕ) (words : List ℕ) (i j k : ℕ) → IsCalculus m → IsNetwork m n words → IsProperTriple n i j k → IsClosedAt m n words i j k → IsClosedAt m n words k j i
@@ -436,9 +436,6 @@ IsClosed-idle m net work s h idle =
     record { each = λ i j k t. h i j k t (quiet i j (pair-first net.nodes i j k t)) (quiet j k (pair-second net.nodes i j k t)) }
 
 -- ---- the start
-
-pub IsSettled-all : (m : Meaning) (net : Network) (work : Worklist) → work.nodes ≡ net.nodes → ((i j : ℕ) → IsProperPair work.nodes i j → Waits work i j) → IsSettled m net work
-IsSettled-all m net work e h = λ i j k t p q. absurd (p (h i j (subst (λ n. IsProperPair n i j) (sym e) (pair-first net.nodes i j k t))))
 
 pub IsSettled-from : (m : Meaning) (net : Network) (work : Worklist) (i j : ℕ) → work.nodes ≡ net.nodes → IsProperPair net.nodes i j → IsClosedBut m net.nodes net.words i j → Waits work i j → IsSettled m net work
 IsSettled-from m net work i j e pair but w = λ a b c t p q.

@@ -43,6 +43,10 @@ pub record IsInStep (m : Meaning) (net : Network) (work : Worklist) : Type 0 whe
 abbrev pub IsLoaded : Meaning → Network → Worklist → ℕ → Type 0
 IsLoaded m net work k = (i j : ℕ) → i < k → IsProperPair net.nodes i j → slice_index work.sets (i * net.nodes + j) ≡ set_at m net.nodes net.words i j
 
+-- of the edges from the nodes below k, each whose set isn't `full` waits
+abbrev pub IsBegun : Worklist → ℕ → ℕ → Type 0
+IsBegun work full k = (i j : ℕ) → i < k → i < j → j < work.nodes → (slice_index work.sets (i * work.nodes + j) ≡ full) ⊎ Waits work i j
+
 -- the sum of the sets as numbers, twice, and the number of edges that wait: what is left to do
 abbrev pub left_of : Network → Worklist → ℕ
 left_of net work = 2 * sum net.words + count_by (λ b. b) work.waits

@@ -207,8 +207,9 @@ pub fn close_with<C: Compose>(net: &mut Net, c: &C, work: &mut Work)
     ensures rest { net.new ≡ record net.old { words = net.new.words } }
     ensures work { work.new.nodes ≡ work.old.nodes }
 {
+    let _bases = c.size();
     work.load(net, c);
-    work.wait_all();
+    work.wait_lesser(c.full());
     finish(net, c, work);
 }
 

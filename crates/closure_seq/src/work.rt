@@ -41,7 +41,7 @@ impl Work {
     ghost use Rattle.network_words.specs.Edge.{IsProperPair};
     ghost use Rattle.network_words.specs.Network.{IsNetwork, IsShaped};
     ghost use Rattle.network_words.specs.declared.TheConstants.{MAX_NODES};
-    ghost use Rattle.closure_seq.specs.Worklist.{Worklist, IsSized, IsIdle, Waits, IsInStep, IsLoaded, edge_place};
+    ghost use Rattle.closure_seq.specs.Worklist.{Worklist, IsSized, IsBegun, IsIdle, Waits, IsInStep, IsLoaded, edge_place};
 
     /// Room for networks of this number of nodes.
     pub fn new(alloc: Global, nodes: u32) -> Result<Work, Memory>
@@ -136,13 +136,31 @@ impl Work {
         self.rows[i as usize] = false;
     }
 
-    /// Lets every edge wait.
-    pub(crate) fn wait_all(&mut self)
+    /// Lets the edges from `i` to greater nodes wait whose set isn't `full`.
+    fn wait_row(&mut self, full: Rel, i: u32)
+        requires below { i < self.old.nodes }
+        requires before { IsBegun self.old full i }
         ensures rest { self.new ≡ record self.old { waits = self.new.waits } }
-        ensures waits { (i j : ℕ) → IsProperPair self.new.nodes i j → Waits self.new i j }
+        ensures begun { IsBegun self.new full (i + 1) }
     {
-        self.waits.fill(true);
-        self.rows.fill(true);
+        let nodes = self.nodes();
+        for j in i + 1..nodes {
+            if self.set(i, j) != full {
+                self.wait(i, j);
+            }
+        }
+    }
+
+    /// Lets the edges wait whose set isn't `full`, and no other.
+    pub(crate) fn wait_lesser(&mut self, full: Rel)
+        ensures rest { self.new ≡ record self.old { waits = self.new.waits } }
+        ensures begun { IsBegun self.new full self.new.nodes }
+    {
+        self.waits.fill(false);
+        let nodes = self.nodes();
+        for i in 0..nodes {
+            self.wait_row(full, i);
+        }
     }
 
     /// Lets the edge between `i` and `j` wait, and no other.
