@@ -1,4 +1,4 @@
-// Closes a network of RCC-8 by a queue of edges, plainly: the baseline of closure.py. It trusts its input.
+// Closes a network of RCC-8 by a queue of the edges whose set isn't full, plainly: the baseline of closure.py. It trusts its input.
 #include <cstdint>
 #include <cstdio>
 #include <cstring>
@@ -53,9 +53,10 @@ int main() {
     net[j * n + i] &= converse(set);
   }
   std::deque<std::pair<int, int>> queue;
-  std::vector<char> queued(n * n, 1);
+  std::vector<char> queued(n * n, 0);
   for (int i = 0; i < n; i++)
-    for (int j = i + 1; j < n; j++) queue.push_back({i, j});
+    for (int j = i + 1; j < n; j++)
+      if (net[i * n + j] != ALL) queued[i * n + j] = 1, queue.push_back({i, j});
   bool empty = false;
   for (uint64_t i = 0; i < (uint64_t)n; i++)
     for (uint64_t j = i + 1; j < (uint64_t)n; j++) empty |= net[i * n + j] == 0;
