@@ -503,11 +503,11 @@ pub record IsSpread (m : Meaning) (a : Network) (u : Worklist) (b : Network) (v 
   pub nodes : v.nodes ≡ u.nodes
   pub settled : (q : ℕ) → q < k → IsProperTriple a.nodes i j q → IsSettledAt m b v i j q
 
--- the edges from i to the nodes below k were looked at
+-- the edges from i to the last nodes, fewer than k, were looked at
 pub record IsRowLooked (m : Meaning) (a : Network) (u : Worklist) (b : Network) (v : Worklist) (went : Bool) (i k : ℕ) : Type 0 where
   pub round : IsRound m a u b v went
   pub nodes : v.nodes ≡ u.nodes
-  pub idle : went ≡ false → (q : ℕ) → i < q → q < k → ¬ Waits v i q
+  pub idle : went ≡ false → (q : ℕ) → v.nodes < q + k → q < v.nodes → ¬ Waits v i q
 
 -- the rows below k were looked at
 pub record IsLooked (m : Meaning) (a : Network) (u : Worklist) (b : Network) (v : Worklist) (went : Bool) (k : ℕ) : Type 0 where
@@ -537,16 +537,16 @@ IsSpread-step m a b c u v w i j k cal p q e h =
           (λ t _ _. subst (λ n. IsClosedAt m n c.words i j k) (sym cb) h);
     }
 
-pub IsRowLooked-none : (m : Meaning) (net : Network) (work : Worklist) (i : ℕ) → IsInStep m net work → IsSettled m net work → IsRowLooked m net work net work false i (i + 1)
+pub IsRowLooked-none : (m : Meaning) (net : Network) (work : Worklist) (i : ℕ) → IsInStep m net work → IsSettled m net work → IsRowLooked m net work net work false i 1
 IsRowLooked-none m net work i s h = record { round = IsRound-none m net work s h; nodes = refl; idle = λ e q l l'. absurd (omega arith) }
 
-pub IsRowLooked-skip : (m : Meaning) (a b : Network) (u v : Worklist) (x : Bool) (i k : ℕ) → ¬ Waits v i k → IsRowLooked m a u b v x i k → IsRowLooked m a u b v x i (k + 1)
-IsRowLooked-skip m a b u v x i k quiet p = record {
+pub IsRowLooked-skip : (m : Meaning) (a b : Network) (u v : Worklist) (x : Bool) (i j k : ℕ) → j + k ≡ v.nodes → ¬ Waits v i j → IsRowLooked m a u b v x i k → IsRowLooked m a u b v x i (k + 1)
+IsRowLooked-skip m a b u v x i j k at quiet p = record {
   round = p.round;
   nodes = p.nodes;
-  idle = λ e q l l'. elim (cases_eq q k) [
+  idle = λ e q l l'. elim (cases_eq q j) [
     | inl same ↦ subst (λ d. ¬ Waits v i d) (sym same) quiet
-    | inr ne ↦ p.idle e q l (omega arith)
+    | inr ne ↦ p.idle e q (omega (arith, at)) l'
   ];
 }
 

@@ -105,7 +105,8 @@ fn look<C: Compose>(net: &mut Net, c: &C, work: &mut Work, i: u32, j: u32) -> Re
     spread(net, c, work, j, i)
 }
 
-/// Looks at the edges from `i` to greater nodes that wait. Whether there was one.
+/// Looks at the edges from `i` to greater nodes that wait, the last first: most of those that begin to wait meanwhile come in the
+/// next round, when more sets are small. Whether there was one.
 fn look_row<C: Compose>(net: &mut Net, c: &C, work: &mut Work, i: u32) -> Result<bool, Emptied>
     requires lawful { IsCalculus (C.meaning c.now) }
     requires network { IsNetwork (C.meaning c.now) net.old.nodes net.old.words }
@@ -122,7 +123,8 @@ fn look_row<C: Compose>(net: &mut Net, c: &C, work: &mut Work, i: u32) -> Result
     }
     let mut went = false;
     let nodes = net.nodes();
-    for j in i + 1..nodes {
+    for back in 1..nodes - i {
+        let j = nodes - back;
         if work.waits(i, j) {
             work.take(i, j);
             look(net, c, work, i, j)?;

@@ -1,5 +1,5 @@
 use Rattle.closure_seq.proofs.Turns.{IsRowLooked}
 use Rattle.closure_seq.proofs.closing.look_row.Given as goal
 
-abbrev pub invariant-loop-j : goal.invariant-loop-j
-invariant-loop-j g l = IsRowLooked (g.C.Compose.meaning l.c) l.initial.net l.initial.work l.net l.work l.went l.i l.j
+abbrev pub invariant-loop-back : goal.invariant-loop-back
+invariant-loop-back g l = IsRowLooked (g.C.Compose.meaning l.c) l.initial.net l.initial.work l.net l.work l.went l.i l.back
