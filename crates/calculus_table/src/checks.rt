@@ -20,7 +20,7 @@ fn is_repeat(names: &[String], k: usize) -> bool
 }
 
 /// The first place whose name stands before it too.
-pub fn first_repeat(names: &[String]) -> Option<u32>
+pub(crate) fn first_repeat(names: &[String]) -> Option<u32>
     requires { length names.now < 2 ^ 32 }
     ensures { MatchOption result (AreDistinct (map string_bytes names.now)) (IsFirstRepeat (map string_bytes names.now)) }
 {

@@ -9,7 +9,6 @@ mod rel;
 mod table;
 
 pub use calculus::{Calculus, TableFault};
-pub use checks::first_repeat;
 pub use compose::Compose;
 pub use laws::laws_of_sets;
 pub use rel::Rel;

@@ -4,3 +4,4 @@ pub mod Meets
 pub mod Scenarios
 pub mod NetsOfFacts
 pub mod Copies
+mod NumberedNames

@@ -3,6 +3,7 @@
 
 mod fact;
 mod laws;
+mod names;
 mod net;
 #[cfg(test)]
 mod tests;

@@ -1,6 +1,8 @@
 use crate::MAX_NODES;
 use crate::fact::{Fact, first_fault};
-use calculus_table::{Compose, Memory, Rel, first_repeat};
+use crate::names::{number_of, numbered};
+use calculus_table::{Compose, Memory, Rel};
+use indexmap::IndexSet;
 use std::alloc::Global;
 use std::marker::Model;
 
@@ -25,7 +27,7 @@ pub struct Net {
     nodes: u32,
     full: Rel,
     words: Vec<u64>,
-    names: Vec<String>,
+    names: IndexSet<String>,
 }
 
 impl Model for Net {
@@ -35,9 +37,9 @@ impl Model for Net {
 
     ghost Value = { Network };
 
-    ghost view = { λ a. record { nodes = a.nodes; full = a.full; words = a.words.items; names = map string_bytes a.names.items } };
+    ghost view = { λ a. record { nodes = a.nodes; full = a.full; words = a.words.items; names = map string_bytes a.names.keys } };
 
-    ghost invariant = { λ a. IsShaped (record { nodes = a.nodes; full = a.full; words = a.words.items; names = map string_bytes a.names.items }) };
+    ghost invariant = { λ a. IsShaped (record { nodes = a.nodes; full = a.full; words = a.words.items; names = map string_bytes a.names.keys }) };
 }
 
 impl Net {
@@ -66,7 +68,7 @@ impl Net {
             nodes,
             full,
             words,
-            names: Vec::new(alloc),
+            names: IndexSet::new(alloc),
         })
     }
 
@@ -96,11 +98,7 @@ impl Net {
         ensures fault { IfErr result (IsNamesFaultOf (map string_bytes names.items)) }
         ensures kept { OnErr result (self.new ≡ self.old) }
     {
-        prove!(names.len() == self.nodes as usize);
-        if let Some(at) = first_repeat(&names) {
-            return Err(NetFault::NameTwice { at });
-        }
-        self.names = names;
+        self.names = numbered(*self.names.allocator(), names)?;
         Ok(())
     }
 
@@ -166,11 +164,8 @@ impl Net {
             (self.now.names ≡ [])
             (λ name. slice_get self.now.names node ≡ Some name.now) }
     {
-        if self.names.is_empty() {
-            None
-        } else {
-            Some(self.names[node as usize].as_str())
-        }
+        let name = self.names.get_index(node as usize)?;
+        Some(name.as_str())
     }
 
     /// The node of this name.
@@ -179,12 +174,8 @@ impl Net {
             ((node : ℕ) → slice_get self.now.names node ≢ Some name.now)
             (λ node. (node < self.now.nodes) × (slice_get self.now.names node ≡ Some name.now)) }
     {
-        for node in 0..self.names.len() {
-            if self.names[node].as_bytes() == name {
-                return Some(node as u32);
-            }
-        }
-        None
+        let node = number_of(&self.names, name)?;
+        Some(node as u32)
     }
 
     /// The set of the pair `(i, j)`, turned by the converse where `i > j`.

@@ -121,6 +121,8 @@ fn nodes_have_names(rt: HostRuntime) -> Result<(), Fail> {
     assert_eq!(rt; net.name(3), Some("d"));
     assert_eq!(rt; net.find(b"c"), Some(2));
     assert_eq!(rt; net.find(b"e"), None);
+    assert_eq!(rt; net.find(b"\xFF"), None);
+    assert_eq!(rt; net.copy()?.find(b"b"), Some(1));
     Ok(())
 }
 

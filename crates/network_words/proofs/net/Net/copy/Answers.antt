@@ -8,13 +8,13 @@ use Rattle.network_words.proofs.net.Net.copy.Goals as goal
 pub invariant_of-result : goal.invariant_of-result
 invariant_of-result c =
     let words : c.in-Ok.words.items ≡ c.self.inside.words.items = search (rules, same_from_all_zip) in
-    let names : map string_bytes c.in-Ok-clone.names.items ≡ map string_bytes c.self.inside.names.items =
-    names_copied _ c.self.inside.names.items c.in-Ok-clone.names.items c.in-Ok-clone.ensures.cases.0 (λ x y r. r) in
+    let names : map string_bytes c.in-Ok-clone.names.keys ≡ map string_bytes c.self.inside.names.keys =
+    names_copied _ c.self.inside.names.keys c.in-Ok-clone.names.keys c.in-Ok-clone.ensures.cases (λ x y r. r) in
     subst IsShaped (sym (network_copied c.self.inside.nodes c.self.inside.full _ _ _ _ words names)) c.self.invariant
 
 pub returns : goal.returns
 returns c =
     let words : c.in-Ok.words.items ≡ c.self.inside.words.items = search (rules, same_from_all_zip) in
-    let names : map string_bytes c.in-Ok-clone.names.items ≡ map string_bytes c.self.inside.names.items =
-    names_copied _ c.self.inside.names.items c.in-Ok-clone.names.items c.in-Ok-clone.ensures.cases.0 (λ x y r. r) in
+    let names : map string_bytes c.in-Ok-clone.names.keys ≡ map string_bytes c.self.inside.names.keys =
+    names_copied _ c.self.inside.names.keys c.in-Ok-clone.names.keys c.in-Ok-clone.ensures.cases (λ x y r. r) in
     network_copied c.self.inside.nodes c.self.inside.full _ _ _ _ words names ∙ c.self.view_is
