@@ -11,15 +11,15 @@ use Rattle.calculus_table.specs.Composition.{full_of, composition, converse}
 use Rattle.calculus_table.specs.Calculus.{IsCalculus}
 use Rattle.calculus_table.proofs.Sets.{IsWithin-refl, IsWithin-trans, IsWithin-meet_r, IsWithin-empty, empty-within, within-meet, meet-within}
 use Rattle.calculus_table.proofs.Compositions.{composition-within, converse-mono, converse-composition}
-use Rattle.network_words.specs.Edge.{edge_count, edge_at, IsProperPair, IsProperTriple}
+use Rattle.network_words.specs.Edge.{edge_count, edge_at, edge_between, IsProperPair, IsProperTriple}
 use Rattle.network_words.specs.Network.{Network, IsNetwork, set_at, met_at}
 use Rattle.network_words.specs.Closure.{IsClosed, IsClosure}
-use Rattle.network_words.proofs.Edges.{edge_at-lt, edge_at-first, edge_at-second}
+use Rattle.network_words.proofs.Edges.{edge_at-lt, edge_at-first, edge_at-second, edge_between-straight, edge_between-turned}
 use Rattle.network_words.proofs.Networks.{set_at-straight, set_at-turned, set_at-mono, set_at-converse, set_at-met_at, length-met_at, met_at-within, set-cases}
 use Rattle.network_words.proofs.Scenarios.{turned-empty, converse-empty, closed-empty}
 use Rattle.closure_seq.specs.Narrowing.{IsLessened, IsClosedAt}
 use Rattle.closure_seq.specs.Worklist.{Worklist, IsSized, IsInStep, Waits, edge_place, left_of, IsSettledAt, IsSettled, IsSamePair, IsSettledBut, IsTurn, IsRound, IsIdle, IsEmptied}
-use Rattle.closure_seq.specs.ClosedBut.{edge_between, IsClosedBut}
+use Rattle.closure_seq.specs.ClosedBut.{IsClosedBut}
 use Rattle.closure_seq.proofs.Narrowings.{IsLessened-refl, IsLessened-nodes, IsLessened-trans, IsLessened-along, IsNetwork-within, IsNetwork-lessened, met_at-smaller}
 use Rattle.closure_seq.proofs.Worklists.{place_below, edge_place-straight, edge_place-turned, set-flag}
 
@@ -33,12 +33,6 @@ edge_place-turn n i j d = elim (cases_lt i j) [
   | inl h ↦ edge_place-straight n i j h ∙ sym (edge_place-turned n j i (omega arith))
   | inr h ↦ edge_place-turned n i j h ∙ sym (edge_place-straight n j i (omega arith))
 ]
-
-edge_between-straight : (n i j : ℕ) → i < j → edge_between n i j ≡ edge_at n i j
-edge_between-straight n i j h = ap (λ b. cond b (edge_at n i j) (edge_at n j i)) (lt-ltb i j h)
-
-edge_between-turned : (n i j : ℕ) → j ≤ i → edge_between n i j ≡ edge_at n j i
-edge_between-turned n i j h = ap (λ b. cond b (edge_at n i j) (edge_at n j i)) (le-ltb i j h)
 
 -- what tells the nodes of an edge apart tells pairs apart
 pair-from : (f : ℕ → ℕ → ℕ) (n : ℕ) → ((a b i j : ℕ) → a < b → b < n → i < j → j < n → f a b ≡ f i j → (a ≡ i) × (b ≡ j)) → (a b i j : ℕ) → IsProperPair n a b → IsProperPair n i j →

@@ -1,7 +1,7 @@
 -- The numbers of edges: their rows, their bound, and that different pairs have different numbers.
-use Rattle.std.proofs.Common.{◌≡◌, ℕ, zero, suc, ◌+◌, ◌-◌, ◌*◌, ◌/◌, ◌<◌, ◌≤◌, refl, ◌∙◌, ap, subst, arith, inl, inr, add-zero, add-suc}
-use Rattle.std.proofs.lemmas.Bool.{cases_lt}
-use Rattle.network_words.specs.Edge.{edge_count, edge_at}
+use Rattle.std.proofs.Common.{◌≡◌, ℕ, cond, zero, suc, ◌+◌, ◌-◌, ◌*◌, ◌/◌, ◌<◌, ◌≤◌, refl, ◌∙◌, ap, subst, arith, inl, inr, add-zero, add-suc}
+use Rattle.std.proofs.lemmas.Bool.{cases_lt, lt-ltb, le-ltb}
+use Rattle.network_words.specs.Edge.{edge_count, edge_at, edge_between}
 
 -- the number of the first edge of node i
 pub row_start : ℕ → ℕ → ℕ
@@ -70,6 +70,13 @@ edge_at-second n i j k l o b p q e =
     let same : i ≡ k = edge_at-first n i j k l o b p q e in
     let rows : row_start n i ≡ row_start n k = ap (row_start n) same in
     omega (arith, edge_at-row n i j (omega arith), edge_at-row n k l (omega arith))
+
+-- the edge between two nodes, by their order
+pub edge_between-straight : (n i j : ℕ) → i < j → edge_between n i j ≡ edge_at n i j
+edge_between-straight n i j h = ap (λ b. cond b (edge_at n i j) (edge_at n j i)) (lt-ltb i j h)
+
+pub edge_between-turned : (n i j : ℕ) → j ≤ i → edge_between n i j ≡ edge_at n j i
+edge_between-turned n i j h = ap (λ b. cond b (edge_at n i j) (edge_at n j i)) (le-ltb i j h)
 
 -- each number below the count is that of an edge
 pub record EdgeOf (n e : ℕ) : Type 0 where
