@@ -1,7 +1,8 @@
 pub mod Sets
 pub mod Compositions
-pub mod Names
+pub mod PlacesOfNames
 pub mod Faults
 pub mod Computed
 pub mod Unions
 pub mod Without
+pub mod Singles

@@ -1,6 +1,7 @@
 pub mod Rel
 pub mod Meaning
 pub mod Composition
+pub mod Names
 pub mod Calculus
 pub mod TripleLaw
 pub mod TableFault

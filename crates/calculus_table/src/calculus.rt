@@ -1,5 +1,6 @@
-use crate::checks::{check_laws, first_repeat};
+use crate::checks::check_laws;
 use crate::compose::Compose;
+use crate::names::{first_repeat, place_of};
 use crate::rel::Rel;
 use crate::table::Table;
 use std::alloc::Global;
@@ -85,18 +86,21 @@ impl Calculus {
         self.names[r as usize].as_str()
     }
 
+    /// The names of the base relations, in their order.
+    pub fn names(&self) -> &[String]
+        ensures value { map string_bytes result.now ≡ self.now.names }
+        ensures lawful { NamesItsBases self.now }
+    {
+        &self.names
+    }
+
     /// The base relation of this name.
     pub fn find(&self, name: &[u8]) -> Option<u32>
         ensures { MatchOption result
             ((r : ℕ) → slice_get self.now.names r ≢ Some name.now)
             (λ r. (r < self.now.meaning.size) × (slice_get self.now.names r ≡ Some name.now)) }
     {
-        for r in 0..self.names.len() {
-            if self.names[r].as_bytes() == name {
-                return Some(r as u32);
-            }
-        }
-        None
+        place_of(&self.names, name)
     }
 }
 

@@ -5,12 +5,14 @@ mod calculus;
 mod checks;
 mod compose;
 mod laws;
+mod names;
 mod rel;
 mod table;
 
 pub use calculus::{Calculus, TableFault};
 pub use compose::Compose;
 pub use laws::laws_of_sets;
+pub use names::place_of;
 pub use rel::Rel;
 
 /// The greatest number of base relations that a calculus may have.

@@ -100,6 +100,8 @@ fn a_lawful_table_is_a_calculus(rt: HostRuntime) -> Result<(), Fail> {
     }
     assert_eq!(rt; c.find(b"c"), None);
     assert_eq!(rt; c.find(b""), None);
+    assert_eq!(rt; c.names().len(), 3);
+    assert_eq!(rt; place_of(&c.names()[..2], b"b"), None);
     for (first, second, composed) in [
         (0b010, 0b010, 0b101),
         (0b010, 0b100, 0b110),

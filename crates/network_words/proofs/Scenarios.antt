@@ -8,8 +8,9 @@ use Rattle.calculus_table.specs.Rel.{Has, IsWithin}
 use Rattle.calculus_table.specs.Meaning.{Meaning, converse_at, entry_at}
 use Rattle.calculus_table.specs.Composition.{full_of, composition, converse, InComposition, InConverse}
 use Rattle.calculus_table.specs.Calculus.{IsCalculus}
-use Rattle.calculus_table.proofs.Sets.{IsWithin-trans, IsWithin-antisym, IsWithin-empty, empty-within, not_Has-empty, Has-single}
-use Rattle.calculus_table.proofs.Compositions.{single-member, Has-full, Has-composition, composition-member, Has-converse_at, converse-member}
+use Rattle.calculus_table.proofs.Sets.{IsWithin-trans, IsWithin-empty, empty-within, not_Has-empty, Has-single}
+use Rattle.calculus_table.proofs.Compositions.{Has-full, Has-composition, composition-member, converse-member}
+use Rattle.calculus_table.proofs.Singles.{single-within, within-single, converse-single}
 use Rattle.network_words.specs.Edge.{edge_count, edge_at, IsProperPair, IsProperTriple}
 use Rattle.network_words.specs.Network.{IsNetwork, AreWithin, set_at}
 use Rattle.network_words.specs.Closure.{IsClosed, IsClosure}
@@ -18,22 +19,6 @@ use Rattle.network_words.proofs.Edges.{EdgeOf, edge_of, edge_at-lt}
 use Rattle.network_words.proofs.Networks.{set_at-straight, set_at-turned, set_at-converse, IsClosed-ordered}
 
 -- ---- single sets
-
-single-within : (r a : ℕ) → Has a r → IsWithin (2 ^ r) a
-single-within r a h = record { each = λ t p. subst (Has a) (sym (single-member r t p)) h }
-
-within-single : (r a : ℕ) → IsWithin (2 ^ r) a → Has a r
-within-single r a w = w.each r (Has-single r)
-
--- the converse of a single set is that of its member
-converse-single : (m : Meaning) (r : ℕ) → r < m.size → converse m (2 ^ r) ≡ 2 ^ converse_at m r
-converse-single m r l = IsWithin-antisym _ _
-    (record {
-      each = λ t h. let i : InConverse m (2 ^ r) t = converse-member m (2 ^ r) t h in
-          let e : converse_at m r ≡ t = ap (converse_at m) (sym (single-member r i.base i.base_in)) ∙ i.is_converse in
-          subst (Has (2 ^ converse_at m r)) e (Has-single (converse_at m r));
-    })
-    (single-within (converse_at m r) (converse m (2 ^ r)) (Has-converse_at m (2 ^ r) r l (Has-single r)))
 
 -- a base relation in the composition of two, as single sets
 single-composes : (m : Meaning) (r s t : ℕ) → r < m.size → s < m.size → t < m.size → Has (entry_at m r s) t → IsWithin (2 ^ t) (composition m (2 ^ r) (2 ^ s))

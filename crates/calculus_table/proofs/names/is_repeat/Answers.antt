@@ -1,8 +1,8 @@
 use Rattle.std.proofs.Common.{Some, refl, below_more, ◌∙◌, sym, ap, arith}
 use Rattle.std.specs.String.{string_bytes}
 use Rattle.std.proofs.lemmas.List.{length-map}
-use Rattle.calculus_table.proofs.Names.{name_read, equal_names, other_names}
-use Rattle.calculus_table.proofs.checks.is_repeat.Goals as goal
+use Rattle.calculus_table.proofs.PlacesOfNames.{name_read, equal_names, other_names}
+use Rattle.calculus_table.proofs.names.is_repeat.Goals as goal
 
 pub returns-then-eq : goal.returns-then-eq
 returns-then-eq c =

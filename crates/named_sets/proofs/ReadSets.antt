@@ -1,0 +1,85 @@
+-- Sets that are read by the names of their members, and the names of a set's members.
+use Rattle.std.proofs.Common.{◌≡◌, ℕ, zero, suc, ◌+◌, ◌-◌, ◌^◌, ◌<◌, ◌≤◌, ◌==◌, Bool, true, false, cond, bit_or, List, [], ◌∷◌, ◌++◌, length, map, drop, get_or, slice_get, Option, Some, None, option_and_then, refl, sym, ◌∙◌, ap, subst, arith, add-one, ne_eqb}
+use lib.Bits.{or_zero_r}
+use Rattle.std.specs.Int.{bit_at}
+use Rattle.std.proofs.lemmas.Bool.{eqb-true, eq-eqb, true≢false}
+use Rattle.std.proofs.lemmas.List.{drop_more}
+use Rattle.calculus_table.specs.Rel.{Has, IsWithin}
+use Rattle.calculus_table.specs.Meaning.{Meaning}
+use Rattle.calculus_table.specs.Composition.{full_of, union_below, if_has}
+use Rattle.calculus_table.specs.Names.{place_of}
+use Rattle.calculus_table.specs.Calculus.{AreDistinct}
+use Rattle.calculus_table.proofs.Sets.{IsWithin-antisym, IsWithin-union, Has-single}
+use Rattle.calculus_table.proofs.Compositions.{InUnion, union_below-member, Has-union_below, if_has-member, Has-if_has, single-member, full-member, Has-full}
+use Rattle.calculus_table.proofs.Singles.{single-within}
+use Rattle.calculus_table.proofs.PlacesOfNames.{place_of-found}
+use Rattle.named_sets.specs.Named.{set_from, set_of, name_of, members_below}
+
+-- ---- one name after another
+
+pub set_from-next : {A : Type 0} (v : A → List ℕ) (bases : List (List ℕ)) (set : ℕ) (base : Option ℕ) (xs : List A) (k : ℕ) (d : A) → k < length xs → base ≡ place_of (v (get_or xs k d)) bases →
+    set_from bases set (map v (drop k xs)) ≡ option_and_then (λ r. set_from bases (bit_or set (2 ^ r)) (map v (drop (k + 1) xs))) base
+set_from-next v bases set base xs k d below is =
+    ap (λ ys. set_from bases set (map v ys)) (drop_more xs k d below)
+    ∙ ap (λ b. option_and_then (λ r. set_from bases (bit_or set (2 ^ r)) (map v (drop (k + 1) xs))) b) (sym is)
+
+pub set-within : (n set r : ℕ) → IsWithin set (2 ^ n - 1) → r < n → IsWithin (bit_or set (2 ^ r)) (2 ^ n - 1)
+set-within n set r h below =
+    let m : Meaning = record { size = n; identity = 0; converses = []; table = [] } in
+    IsWithin-union set (2 ^ r) (2 ^ n - 1) h (single-within r (2 ^ n - 1) (Has-full m r below))
+
+-- ---- the names of a set's members
+
+set_from-by : (bases : List (List ℕ)) (set : ℕ) (xs ys : List (List ℕ)) → ((s : ℕ) → set_from bases s (xs ++ ys) ≡ option_and_then (λ t. set_from bases t ys) (set_from bases s xs)) → (o : Option ℕ) →
+    option_and_then (λ r. set_from bases (bit_or set (2 ^ r)) (xs ++ ys)) o ≡ option_and_then (λ t. set_from bases t ys) (option_and_then (λ r. set_from bases (bit_or set (2 ^ r)) xs) o)
+set_from-by bases set xs ys h None = refl
+set_from-by bases set xs ys h (Some r) = h (bit_or set (2 ^ r))
+
+set_from-append : (bases : List (List ℕ)) (set : ℕ) (xs ys : List (List ℕ)) → set_from bases set (xs ++ ys) ≡ option_and_then (λ t. set_from bases t ys) (set_from bases set xs)
+set_from-append bases set [] ys = refl
+set_from-append bases set (x ∷ xs) ys = set_from-by bases set xs ys (λ s. set_from-append bases s xs ys) (place_of x bases)
+
+union_below-has : (a n all : ℕ) (f : ℕ → ℕ) → all ≡ union_below n (λ r. if_has a r (f r)) → Has a n → bit_or all (f n) ≡ union_below (n + 1) (λ r. if_has a r (f r))
+unfolding union_below
+union_below-has a n all f e h = rw (add-one, e, eq-eqb (bit_at a n) 1 h) refl
+
+union_below-has_not : (a n all : ℕ) (f : ℕ → ℕ) → all ≡ union_below n (λ r. if_has a r (f r)) → ¬ Has a n → all ≡ union_below (n + 1) (λ r. if_has a r (f r))
+unfolding union_below
+union_below-has_not a n all f e h = rw (add-one, e, ne_eqb (bit_at a n) 1 h) (sym (or_zero_r _))
+
+-- the members of a below k, as a set
+abbrev low : ℕ → ℕ → ℕ
+low a k = union_below k (λ r. if_has a r (2 ^ r))
+
+low-step : (bases : List (List ℕ)) (a r : ℕ) (w : List ℕ) (b : Bool) → (bit_at a r == 1) ≡ b → place_of w bases ≡ Some r → set_from bases (low a r) (cond b (w ∷ []) []) ≡ Some (low a (r + 1))
+low-step bases a r w true is place = ap (option_and_then (λ q. Some (bit_or (low a r) (2 ^ q)))) place ∙ ap Some (union_below-has a r (low a r) (λ q. 2 ^ q) refl (eqb-true (bit_at a r) 1 is))
+low-step bases a r w false is place = ap Some (union_below-has_not a r (low a r) (λ q. 2 ^ q) refl (λ h. true≢false (sym (eq-eqb (bit_at a r) 1 h) ∙ is)))
+
+name_there : (names : List (List ℕ)) (k : ℕ) → k < length names → slice_get names k ≡ Some (name_of names k)
+name_there [] k h = absurd (omega arith)
+name_there (x ∷ xs) zero h = refl
+name_there (x ∷ xs) (suc k) h = name_there xs k (omega arith)
+
+set_from-members : (names : List (List ℕ)) (a k : ℕ) → AreDistinct names → k ≤ length names → set_from names 0 (members_below names a k) ≡ Some (low a k)
+unfolding members_below union_below
+set_from-members names a zero d h = refl
+set_from-members names a (suc r) d h =
+    let w = name_of names r in
+    set_from-append names 0 (members_below names a r) (cond (bit_at a r == 1) (w ∷ []) [])
+    ∙ ap (option_and_then (λ t. set_from names t (cond (bit_at a r == 1) (w ∷ []) []))) (set_from-members names a r d (omega arith))
+    ∙ low-step names a r w (bit_at a r == 1) refl (place_of-found names w r d (name_there names r (omega arith)))
+    ∙ ap (λ k. Some (low a k)) (let e : r + 1 ≡ suc r = omega arith in e)
+
+low-all : (m : Meaning) (a : ℕ) → IsWithin a (full_of m) → low a m.size ≡ a
+low-all m a w = IsWithin-antisym (low a m.size) a
+    (record {
+      each = λ t h.
+          let u : InUnion m.size (λ r. if_has a r (2 ^ r)) t = union_below-member m.size (λ r. if_has a r (2 ^ r)) t h in
+          let k = if_has-member a u.at (2 ^ u.at) t u.member in
+          subst (Has a) (sym (single-member u.at t k.1)) k.0;
+    })
+    (record { each = λ t h. Has-union_below m.size (λ r. if_has a r (2 ^ r)) t t (full-member m t (w.each t h)) (Has-if_has a t (2 ^ t) t h (Has-single t)) })
+
+-- the set of the names of its members
+pub set_of-members : (names : List (List ℕ)) (m : Meaning) (a : ℕ) → AreDistinct names → length names ≡ m.size → IsWithin a (full_of m) → set_of names (members_below names a m.size) ≡ Some a
+set_of-members names m a d each w = set_from-members names a m.size d (omega arith) ∙ ap Some (low-all m a w)
