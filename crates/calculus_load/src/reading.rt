@@ -8,6 +8,7 @@ ghost use Rattle.qsr_lex.specs.Tokens.{AreApart};
 ghost use Rattle.qsr_lex.specs.TokenLines.{by_line, token_line};
 ghost use Rattle.calculus_load.specs.LinesToRead.{bad_lines, lines_to_read, end_place};
 ghost use Rattle.calculus_table.specs.Calculus.{NamesItsBases};
+ghost use Rattle.calculus_table.specs.declared.TheConstants.{MAX_BASES};
 ghost use Rattle.calculus_load.specs.Names.{base_of, allowed_names};
 ghost use Rattle.calculus_load.specs.Statements.{names_line, identity_line, behind_colons, behind_colon, statement_line, is_end_line, IsBoundedBy};
 ghost use Rattle.calculus_load.specs.TableFile.{formed, known, named, identified, stated, nothing_behind, statements, from_identity, from_names, given_by, table_of, IsFaultIn, IsLoadFaultOf, IsLineTaken};
@@ -60,7 +61,7 @@ fn names_line<'a>(
 fn allowed_names(alloc: Global, line: u32, names: &[&[u8]]) -> Result<Vec<String>, LoadFault>
     requires { list_all is_name (map (λ name. name.now) names.now) ≡ true }
     ensures ok { IfOk result (λ texts. allowed_names line (map (λ name. name.now) names.now) ≡ Ok (map string_bytes texts.items)) }
-    ensures few { IfOk result (λ texts. length texts.items ≤ 32) }
+    ensures few { IfOk result (λ texts. length texts.items ≤ MAX_BASES) }
     ensures fault { IfErr result (IsFaultIn (allowed_names line (map (λ name. name.now) names.now))) }
 {
     if names.len() > MAX_BASES as usize {
@@ -75,7 +76,7 @@ fn allowed_names(alloc: Global, line: u32, names: &[&[u8]]) -> Result<Vec<String
 /// The names of the base relations, from their line.
 fn named(alloc: Global, line: u32, words: WordReader) -> Result<Vec<String>, LoadFault>
     ensures ok { IfOk result (λ texts. named line words.entry ≡ Ok (map string_bytes texts.items)) }
-    ensures few { IfOk result (λ texts. length texts.items ≤ 32) }
+    ensures few { IfOk result (λ texts. length texts.items ≤ MAX_BASES) }
     ensures fault { IfErr result (IsFaultIn (named line words.entry)) }
 {
     let names = names_line(alloc, line, words)?;
@@ -84,7 +85,7 @@ fn named(alloc: Global, line: u32, words: WordReader) -> Result<Vec<String>, Loa
 
 /// The identity, from its line.
 fn identified(names: &[String], line: u32, mut words: WordReader) -> Result<u32, LoadFault>
-    requires { length names.now ≤ 32 }
+    requires { length names.now ≤ MAX_BASES }
     ensures answer { MatchResult result
         (λ id. identified (map string_bytes names.now) line words.entry ≡ Ok id)
         (λ fault. identified (map string_bytes names.now) line words.entry ≡ Err fault) }
@@ -112,7 +113,7 @@ fn behind_colons(
     first: Option<u32>,
     mut words: WordReader,
 ) -> Result<Statement, LoadFault>
-    requires few { length names.now ≤ 32 }
+    requires few { length names.now ≤ MAX_BASES }
     requires below { IfSome first (λ r. r < length names.now) }
     ensures ok { IfOk result (λ statement. behind_colons (map string_bytes names.now) first words.entry ≡ Some statement) }
     ensures bounded { IfOk result (IsBoundedBy (length names.now)) }
@@ -135,7 +136,7 @@ fn behind_colon(
     first: Option<u32>,
     mut words: WordReader,
 ) -> Result<Statement, LoadFault>
-    requires few { length names.now ≤ 32 }
+    requires few { length names.now ≤ MAX_BASES }
     requires below { IfSome first (λ r. r < length names.now) }
     ensures ok { IfOk result (λ statement. behind_colon (map string_bytes names.now) first words.entry ≡ Some statement) }
     ensures bounded { IfOk result (IsBoundedBy (length names.now)) }
@@ -161,7 +162,7 @@ fn statement(
     line: u32,
     mut words: WordReader,
 ) -> Result<Statement, LoadFault>
-    requires { length names.now ≤ 32 }
+    requires { length names.now ≤ MAX_BASES }
     ensures ok { IfOk result (λ statement. statement_line (map string_bytes names.now) words.entry ≡ Some statement) }
     ensures bounded { IfOk result (IsBoundedBy (length names.now)) }
     ensures fault { IfErr result (IsFaultIn (formed line (statement_line (map string_bytes names.now) words.entry))) }
@@ -234,7 +235,7 @@ fn from_identity(
     end: u32,
     names: Vec<String>,
 ) -> Result<Draft, LoadFault>
-    requires { length names.items ≤ 32 }
+    requires { length names.items ≤ MAX_BASES }
     ensures ok { IfOk result (λ draft. from_identity end lines.old (map string_bytes names.items) ≡ Ok draft) }
     ensures fault { IfErr result (IsFaultIn (from_identity end lines.old (map string_bytes names.items))) }
 {
