@@ -1,7 +1,6 @@
 //! Reading a table file.
-ghost use Rattle.std.specs.Prelude.{◌≡◌, ◌+◌, ◌++◌, ◌<◌, ◌≤◌, unwrap_or, map, length, IfOk, IfErr, IfSome, MatchResult, Ok, Err, Some, true, false};
+ghost use Rattle.std.specs.Prelude.{◌≡◌, ◌+◌, ◌++◌, ◌<◌, ◌≤◌, unwrap_or, map, length, All, IfOk, IfErr, IfSome, MatchResult, Ok, Err, Some, true, false};
 ghost use Rattle.std.specs.String.{string_bytes};
-ghost use Rattle.std.specs.List.{list_all};
 ghost use Rattle.qsr_lex.specs.Names.{is_name};
 ghost use Rattle.qsr_lex.specs.Words.{names_at};
 ghost use Rattle.qsr_lex.specs.Tokens.{AreApart};
@@ -16,10 +15,12 @@ ghost use Rattle.calculus_load.specs.TableFile.{formed, known, named, identified
 use crate::draft::Draft;
 use crate::fault::LoadFault;
 use crate::lines::TableLines;
-use crate::names::{base_of, first_repeat, owned, set_of};
+use crate::names::{base_of, first_repeat, set_of};
 use crate::statement::Statement;
 use calculus_table::{Calculus, MAX_BASES, TableFault};
-use qsr_lex::{LineReader, NamesStop, Readable, TextLine, TokenKind, WordReader, readable};
+use qsr_lex::{
+    LineReader, NamesStop, Readable, TextLine, TokenKind, WordReader, owned_names, readable,
+};
 use std::alloc::Global;
 
 /// Names in brackets, and goes behind them.
@@ -29,6 +30,7 @@ fn names_here<'a>(
     words: &mut WordReader<'a>,
 ) -> Result<Vec<&'a [u8]>, LoadFault>
     ensures ok { IfOk result (λ names. names_at words.old ≡ Some (map (λ name. name.now) names.items, words.new)) }
+    ensures each { IfOk result (λ names. All (λ name. is_name name.now ≡ true) names.items) }
     ensures fault { IfErr result (IsFaultIn (formed line (names_at words.old))) }
 {
     match words.names(alloc) {
@@ -45,6 +47,7 @@ fn names_line<'a>(
     mut words: WordReader<'a>,
 ) -> Result<Vec<&'a [u8]>, LoadFault>
     ensures ok { IfOk result (λ names. names_line words.entry ≡ Some (map (λ name. name.now) names.items)) }
+    ensures each { IfOk result (λ names. All (λ name. is_name name.now ≡ true) names.items) }
     ensures fault { IfErr result (IsFaultIn (formed line (names_line words.entry))) }
 {
     if !words.take_word(b"names") {
@@ -59,7 +62,7 @@ fn names_line<'a>(
 
 /// The names as texts of their own, unless there are too many or one stands twice.
 fn allowed_names(alloc: Global, line: u32, names: &[&[u8]]) -> Result<Vec<String>, LoadFault>
-    requires { list_all is_name (map (λ name. name.now) names.now) ≡ true }
+    requires { All (λ name. is_name name.now ≡ true) names.now }
     ensures ok { IfOk result (λ texts. allowed_names line (map (λ name. name.now) names.now) ≡ Ok (map string_bytes texts.items)) }
     ensures few { IfOk result (λ texts. length texts.items ≤ MAX_BASES) }
     ensures fault { IfErr result (IsFaultIn (allowed_names line (map (λ name. name.now) names.now))) }
@@ -70,7 +73,7 @@ fn allowed_names(alloc: Global, line: u32, names: &[&[u8]]) -> Result<Vec<String
     if let Some(at) = first_repeat(names) {
         return Err(LoadFault::Table(TableFault::NameTwice { at: at as u32 }));
     }
-    owned(alloc, names).map_err(|_| LoadFault::Memory)
+    owned_names(alloc, names).map_err(|_| LoadFault::Memory)
 }
 
 /// The names of the base relations, from their line.

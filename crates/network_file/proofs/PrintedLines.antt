@@ -1,8 +1,8 @@
 -- The canonical text of a network is printed of lines of tokens.
-use Rattle.std.proofs.Common.{◌≡◌, ℕ, zero, suc, ◌^◌, ◌<◌, ◌≤◌, ◌==◌, Bool, true, false, cond, nat_lt, List, [], ◌∷◌, ◌++◌, length, map, take, refl, sym, ◌∙◌, ap, subst, arith, append_assoc, append-nil, slice_get, slice_index, unwrap_or, codes, decimal, ◌⊎◌, inl, inr}
+use Rattle.std.proofs.Common.{◌≡◌, ℕ, zero, suc, ◌^◌, ◌<◌, ◌≤◌, ◌==◌, Bool, true, false, cond, nat_lt, List, [], ◌∷◌, ◌++◌, length, map, take, refl, sym, ◌∙◌, ap, subst, arith, append_assoc, append-nil, slice_get, slice_index, unwrap_or, codes, decimal, ◌&&◌, ◌⊎◌, inl, inr}
 use Rattle.std.specs.Int.{bit_at}
 use Rattle.std.specs.List.{list_all, flat_map, AllByRecursion}
-use Rattle.std.proofs.lemmas.Bool.{cases_lt, lt-ltb, ltb-true}
+use Rattle.std.proofs.lemmas.Bool.{and_parts, cases_lt, lt-ltb, ltb-true}
 use Rattle.std.proofs.lemmas.Bool.Decides.{nat_tests}
 use Rattle.std.proofs.lemmas.Grind.{flat_map-append}
 use Rattle.std.proofs.lemmas.List.{take_all}
@@ -16,8 +16,6 @@ use Rattle.qsr_lex.specs.Printed.{is_token_text, are_tokens, spaced, printed_lin
 use Rattle.qsr_lex.proofs.PrintedNames.{IsPrintedName-from_test}
 use Rattle.qsr_lex.proofs.PrintedNumbers.{IsPrintedNumber-below}
 use Rattle.network_file.specs.NetworkText.{text_below, word_text, member_text, set_text, edge_line, later_line, row_text, network_text}
-use Rattle.network_file.proofs.NamesRead.{and_l, and_r}
-use Rattle.network_file.proofs.NamesLine.{both}
 
 -- ---- the pairs of nodes in edge order
 
@@ -167,6 +165,9 @@ network_text-printed c net l =
 
 -- ---- each text of the lines is a token
 
+both : (a b : Bool) → a ≡ true → b ≡ true → a && b ≡ true
+both a b p q = rw (p, q) refl
+
 -- a number up to the limit of nodes has no more digits than a number may have
 pub small : (k : ℕ) → k ≤ MAX_NODES → k < 10 ^ 18
 small k h = omega arith
@@ -177,8 +178,8 @@ all_cond false w h = refl
 
 name_at : (names : List (List ℕ)) (k : ℕ) → k < length names → list_all is_name names ≡ true → is_name (unwrap_or (slice_get names k) []) ≡ true
 name_at [] k b h = absurd (omega arith)
-name_at (x ∷ xs) zero b h = and_l (is_name x) (list_all is_name xs) h
-name_at (x ∷ xs) (suc k) b h = name_at xs k (omega arith) (and_r (is_name x) (list_all is_name xs) h)
+name_at (x ∷ xs) zero b h = (and_parts (is_name x) (list_all is_name xs) h).0
+name_at (x ∷ xs) (suc k) b h = name_at xs k (omega arith) (and_parts (is_name x) (list_all is_name xs) h).1
 
 pub members_below-names : (names : List (List ℕ)) (a k : ℕ) → k ≤ length names → list_all is_name names ≡ true → list_all is_name (members_below names a k) ≡ true
 unfolding members_below
@@ -192,8 +193,8 @@ members_below-names names a (suc r) b h =
 names_are_tokens : (ws : List (List ℕ)) → list_all is_name ws ≡ true → list_all is_token_text (ws ++ (41 ∷ []) ∷ []) ≡ true
 names_are_tokens [] h = refl
 names_are_tokens (w ∷ ws) h =
-    both (is_token_text w) (list_all is_token_text (ws ++ (41 ∷ []) ∷ [])) (IsPrintedName-from_test w (and_l (is_name w) (list_all is_name ws) h)).token
-    (names_are_tokens ws (and_r (is_name w) (list_all is_name ws) h))
+    both (is_token_text w) (list_all is_token_text (ws ++ (41 ∷ []) ∷ [])) (IsPrintedName-from_test w (and_parts (is_name w) (list_all is_name ws) h).0).token
+    (names_are_tokens ws (and_parts (is_name w) (list_all is_name ws) h).1)
 
 -- a pair of nodes in edge order
 pub record IsPair (n : ℕ) (p : ℕ × ℕ) : Type 0 where
