@@ -6,7 +6,7 @@ use Rattle.std.proofs.lemmas.List.{take_more, drop_all, take_all, get_or-take, l
 use Rattle.std.proofs.lemmas.Option.{unwrap_or-slice_get, slice_get-get_or}
 use Rattle.std.proofs.lemmas.Slice.Eq.{bytes_eq-Decides}
 use lib.Bits.{or_zero_r}
-use Rattle.std.proofs.lemmas.Bool.{le-ltb, eq-eqb}
+use Rattle.std.proofs.lemmas.Bool.{and_parts, le-ltb, eq-eqb}
 use Rattle.std.proofs.lemmas.Bool.Decides.{nat_tests}
 use Rattle.qsr_lex.specs.Names.{is_name}
 use Rattle.calculus_table.specs.Rel.{Has, IsWithin}
@@ -19,7 +19,7 @@ use Rattle.calculus_load.specs.Names.{place_from, base_of, with_base, with_bases
 use Rattle.calculus_load.specs.TableText.{name_at}
 use Rattle.calculus_load.specs.declared.fault.LoadFault.TheVariants.{TooMany}
 use Rattle.std.proofs.Common.{Ok, Err}
-use Rattle.calculus_load.proofs.NamesRead.{and_l, and_r, repeat_behind-miss}
+use Rattle.calculus_load.proofs.NamesRead.{repeat_behind-miss}
 use Rattle.calculus_load.proofs.PrintedTable.{listed, members}
 
 -- the names of a calculus are words that may name something
@@ -35,8 +35,8 @@ name-is c r = unwrap_or-slice_get c.names r []
 
 each-name : (names : List (List ℕ)) (r : ℕ) → list_all is_name names ≡ true → r < length names → is_name (get_or names r []) ≡ true
 each-name [] r h below = absurd (omega arith)
-each-name (x ∷ xs) zero h below = and_l (is_name x) (list_all is_name xs) h
-each-name (x ∷ xs) (suc r) h below = each-name xs r (and_r (is_name x) (list_all is_name xs) h) (omega arith)
+each-name (x ∷ xs) zero h below = (and_parts (is_name x) (list_all is_name xs) h).0
+each-name (x ∷ xs) (suc r) h below = each-name xs r (and_parts (is_name x) (list_all is_name xs) h).1 (omega arith)
 
 pub name_at-is_name : (c : Named) (r : ℕ) → HasNames c → r < c.meaning.size → is_name (name_at c r) ≡ true
 name_at-is_name c r h below = ap is_name (name-is c r) ∙ each-name c.names r h.names (omega (arith, size-is c h))

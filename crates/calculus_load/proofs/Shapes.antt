@@ -3,6 +3,7 @@ use Rattle.std.proofs.Common.{◌≡◌, ℕ, zero, suc, ◌+◌, ◌*◌, ◌-�
 use Rattle.std.proofs.lemmas.List.{length-map, length-replicate, length-set, map-set, get_or-set_same, get_or-set_other, at_drop_more}
 use Rattle.std.proofs.lemmas.Bool.{cases_eq}
 use Rattle.calculus_table.specs.Rel.{IsWithin}
+use Rattle.calculus_table.specs.declared.TheConstants.{MAX_BASES}
 use Rattle.calculus_table.proofs.Sets.{IsWithin-empty}
 use Rattle.calculus_load.specs.Given.{Given, HasShape, value_of, first_missing_from}
 use Rattle.calculus_load.specs.TableFile.{nothing_given}
@@ -54,7 +55,7 @@ nothing-at (suc n) (suc i) = nothing-at n i
 length-nothing : (n : ℕ) → length (map value_of (replicate n None)) ≡ n
 length-nothing n = length-map (replicate n None) value_of ∙ length-replicate n None
 
-pub HasShape-nothing : (names : List (List ℕ)) (id : ℕ) → length names ≤ 32 → id < length names → HasShape (nothing_given names id)
+pub HasShape-nothing : (names : List (List ℕ)) (id : ℕ) → length names ≤ MAX_BASES → id < length names → HasShape (nothing_given names id)
 HasShape-nothing names id few below =
     record {
       some = omega arith;
@@ -66,7 +67,7 @@ HasShape-nothing names id few below =
       entry_within = λ r s b1 b2. subst (λ e. IsWithin e (2 ^ length names - 1)) (sym (nothing-at (length names * length names) (r * length names + s))) (IsWithin-empty (2 ^ length names - 1));
     }
 
-pub HasShape-fresh : (names : List (List ℕ)) (id n : ℕ) (converses entries : List (Option ℕ)) → length names ≤ 32 → id < length names → n ≡ length names
+pub HasShape-fresh : (names : List (List ℕ)) (id n : ℕ) (converses entries : List (Option ℕ)) → length names ≤ MAX_BASES → id < length names → n ≡ length names
     → converses ≡ replicate n None → entries ≡ replicate (n * n) None → HasShape (record { names = names; identity = id; converses = converses; entries = entries })
 HasShape-fresh names id n converses entries few below e c1 c2 =
     let with_converses : List (Option ℕ) → Given = λ x. record { names = names; identity = id; converses = x; entries = entries } in

@@ -35,13 +35,14 @@ impl Draft {
     ghost use Rattle.std.specs.String.{string_bytes};
     ghost use Rattle.calculus_table.specs.Rel.{IsWithin};
     ghost use Rattle.calculus_table.specs.Calculus.{NamesItsBases};
+    ghost use Rattle.calculus_table.specs.declared.TheConstants.{MAX_BASES};
     ghost use Rattle.calculus_load.specs.Given.{Given, give_converse, give_entry, complete};
     ghost use Rattle.calculus_load.specs.Statements.{IsBoundedBy};
     ghost use Rattle.calculus_load.specs.TableFile.{nothing_given, said, IsLoadFaultOf};
 
     /// Nothing given but the names and the identity.
     pub(crate) fn new(alloc: Global, names: Vec<String>, identity: u32) -> Result<Draft, AllocError>
-        requires few { length names.items ≤ 32 }
+        requires few { length names.items ≤ MAX_BASES }
         requires below { identity < length names.items }
         ensures { IfOk result (λ draft. draft ≡ nothing_given (map string_bytes names.items) identity) }
     {
@@ -59,7 +60,7 @@ impl Draft {
     /// The names of the base relations.
     pub(crate) fn names(&self) -> &[String]
         ensures value { map string_bytes result.now ≡ self.now.names }
-        ensures few { length result.now ≤ 32 }
+        ensures few { length result.now ≤ MAX_BASES }
         ensures length { length result.now ≡ length self.now.names }
     {
         &self.names

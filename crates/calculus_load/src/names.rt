@@ -1,13 +1,11 @@
 //! The names of base relations.
-ghost use Rattle.std.specs.Prelude.{◌≡◌, ◌-◌, ◌^◌, ◌<◌, map, length, IfSome, IfOk, bytes_eq, List, [], true, ◌≤◌};
-ghost use Rattle.std.specs.List.{list_all, list_any};
+ghost use Rattle.std.specs.Prelude.{◌≡◌, ◌-◌, ◌^◌, ◌<◌, map, length, IfSome, bytes_eq, [], ◌≤◌};
+ghost use Rattle.std.specs.List.{list_any};
 ghost use Rattle.std.specs.String.{string_bytes};
-ghost use Rattle.qsr_lex.specs.Names.{is_name};
 ghost use Rattle.calculus_table.specs.Rel.{IsWithin};
 ghost use Rattle.calculus_load.specs.Names.{base_of, set_of, repeat_behind};
 
 use calculus_table::Rel;
-use std::alloc::{AllocError, Global};
 
 /// The base relation of this name.
 pub(crate) fn base_of(names: &[String], text: &[u8]) -> Option<u32>
@@ -56,25 +54,4 @@ pub(crate) fn first_repeat(names: &[&[u8]]) -> Option<usize>
         }
     }
     None
-}
-
-/// A name as a text of its own.
-fn owned_name(alloc: Global, name: &[u8]) -> Result<String, AllocError>
-    requires { is_name name.now ≡ true }
-    ensures { IfOk result (λ text. string_bytes text ≡ name.now) }
-{
-    let text = str::from_utf8(name).unwrap();
-    String::from_str(alloc, text)
-}
-
-/// Names as texts of their own.
-pub(crate) fn owned(alloc: Global, names: &[&[u8]]) -> Result<Vec<String>, AllocError>
-    requires { list_all is_name (map (λ name. name.now) names.now) ≡ true }
-    ensures { IfOk result (λ texts. map string_bytes texts.items ≡ map (λ name. name.now) names.now) }
-{
-    let mut texts = Vec::new(alloc);
-    for name in names {
-        texts.push(owned_name(alloc, name)?)?;
-    }
-    Ok(texts)
 }

@@ -1,13 +1,13 @@
 //! Reading a table file.
-ghost use Rattle.std.specs.Prelude.{◌≡◌, ◌+◌, ◌++◌, ◌<◌, ◌≤◌, unwrap_or, map, length, IfOk, IfErr, IfSome, MatchResult, Ok, Err, Some, true, false};
+ghost use Rattle.std.specs.Prelude.{◌≡◌, ◌+◌, ◌++◌, ◌<◌, ◌≤◌, unwrap_or, map, length, All, IfOk, IfErr, IfSome, MatchResult, Ok, Err, Some, true, false};
 ghost use Rattle.std.specs.String.{string_bytes};
-ghost use Rattle.std.specs.List.{list_all};
 ghost use Rattle.qsr_lex.specs.Names.{is_name};
 ghost use Rattle.qsr_lex.specs.Words.{names_at};
 ghost use Rattle.qsr_lex.specs.Tokens.{AreApart};
 ghost use Rattle.qsr_lex.specs.TokenLines.{by_line, token_line};
 ghost use Rattle.calculus_load.specs.LinesToRead.{bad_lines, lines_to_read, end_place};
 ghost use Rattle.calculus_table.specs.Calculus.{NamesItsBases};
+ghost use Rattle.calculus_table.specs.declared.TheConstants.{MAX_BASES};
 ghost use Rattle.calculus_load.specs.Names.{base_of, allowed_names};
 ghost use Rattle.calculus_load.specs.Statements.{names_line, identity_line, behind_colons, behind_colon, statement_line, is_end_line, IsBoundedBy};
 ghost use Rattle.calculus_load.specs.TableFile.{formed, known, named, identified, stated, nothing_behind, statements, from_identity, from_names, given_by, table_of, IsFaultIn, IsLoadFaultOf, IsLineTaken};
@@ -15,10 +15,12 @@ ghost use Rattle.calculus_load.specs.TableFile.{formed, known, named, identified
 use crate::draft::Draft;
 use crate::fault::LoadFault;
 use crate::lines::TableLines;
-use crate::names::{base_of, first_repeat, owned, set_of};
+use crate::names::{base_of, first_repeat, set_of};
 use crate::statement::Statement;
 use calculus_table::{Calculus, MAX_BASES, TableFault};
-use qsr_lex::{LineReader, NamesStop, Readable, TextLine, TokenKind, WordReader, readable};
+use qsr_lex::{
+    LineReader, NamesStop, Readable, TextLine, TokenKind, WordReader, owned_names, readable,
+};
 use std::alloc::Global;
 
 /// Names in brackets, and goes behind them.
@@ -28,6 +30,7 @@ fn names_here<'a>(
     words: &mut WordReader<'a>,
 ) -> Result<Vec<&'a [u8]>, LoadFault>
     ensures ok { IfOk result (λ names. names_at words.old ≡ Some (map (λ name. name.now) names.items, words.new)) }
+    ensures each { IfOk result (λ names. All (λ name. is_name name.now ≡ true) names.items) }
     ensures fault { IfErr result (IsFaultIn (formed line (names_at words.old))) }
 {
     match words.names(alloc) {
@@ -44,6 +47,7 @@ fn names_line<'a>(
     mut words: WordReader<'a>,
 ) -> Result<Vec<&'a [u8]>, LoadFault>
     ensures ok { IfOk result (λ names. names_line words.entry ≡ Some (map (λ name. name.now) names.items)) }
+    ensures each { IfOk result (λ names. All (λ name. is_name name.now ≡ true) names.items) }
     ensures fault { IfErr result (IsFaultIn (formed line (names_line words.entry))) }
 {
     if !words.take_word(b"names") {
@@ -58,9 +62,9 @@ fn names_line<'a>(
 
 /// The names as texts of their own, unless there are too many or one stands twice.
 fn allowed_names(alloc: Global, line: u32, names: &[&[u8]]) -> Result<Vec<String>, LoadFault>
-    requires { list_all is_name (map (λ name. name.now) names.now) ≡ true }
+    requires { All (λ name. is_name name.now ≡ true) names.now }
     ensures ok { IfOk result (λ texts. allowed_names line (map (λ name. name.now) names.now) ≡ Ok (map string_bytes texts.items)) }
-    ensures few { IfOk result (λ texts. length texts.items ≤ 32) }
+    ensures few { IfOk result (λ texts. length texts.items ≤ MAX_BASES) }
     ensures fault { IfErr result (IsFaultIn (allowed_names line (map (λ name. name.now) names.now))) }
 {
     if names.len() > MAX_BASES as usize {
@@ -69,13 +73,13 @@ fn allowed_names(alloc: Global, line: u32, names: &[&[u8]]) -> Result<Vec<String
     if let Some(at) = first_repeat(names) {
         return Err(LoadFault::Table(TableFault::NameTwice { at: at as u32 }));
     }
-    owned(alloc, names).map_err(|_| LoadFault::Memory)
+    owned_names(alloc, names).map_err(|_| LoadFault::Memory)
 }
 
 /// The names of the base relations, from their line.
 fn named(alloc: Global, line: u32, words: WordReader) -> Result<Vec<String>, LoadFault>
     ensures ok { IfOk result (λ texts. named line words.entry ≡ Ok (map string_bytes texts.items)) }
-    ensures few { IfOk result (λ texts. length texts.items ≤ 32) }
+    ensures few { IfOk result (λ texts. length texts.items ≤ MAX_BASES) }
     ensures fault { IfErr result (IsFaultIn (named line words.entry)) }
 {
     let names = names_line(alloc, line, words)?;
@@ -84,7 +88,7 @@ fn named(alloc: Global, line: u32, words: WordReader) -> Result<Vec<String>, Loa
 
 /// The identity, from its line.
 fn identified(names: &[String], line: u32, mut words: WordReader) -> Result<u32, LoadFault>
-    requires { length names.now ≤ 32 }
+    requires { length names.now ≤ MAX_BASES }
     ensures answer { MatchResult result
         (λ id. identified (map string_bytes names.now) line words.entry ≡ Ok id)
         (λ fault. identified (map string_bytes names.now) line words.entry ≡ Err fault) }
@@ -112,7 +116,7 @@ fn behind_colons(
     first: Option<u32>,
     mut words: WordReader,
 ) -> Result<Statement, LoadFault>
-    requires few { length names.now ≤ 32 }
+    requires few { length names.now ≤ MAX_BASES }
     requires below { IfSome first (λ r. r < length names.now) }
     ensures ok { IfOk result (λ statement. behind_colons (map string_bytes names.now) first words.entry ≡ Some statement) }
     ensures bounded { IfOk result (IsBoundedBy (length names.now)) }
@@ -135,7 +139,7 @@ fn behind_colon(
     first: Option<u32>,
     mut words: WordReader,
 ) -> Result<Statement, LoadFault>
-    requires few { length names.now ≤ 32 }
+    requires few { length names.now ≤ MAX_BASES }
     requires below { IfSome first (λ r. r < length names.now) }
     ensures ok { IfOk result (λ statement. behind_colon (map string_bytes names.now) first words.entry ≡ Some statement) }
     ensures bounded { IfOk result (IsBoundedBy (length names.now)) }
@@ -161,7 +165,7 @@ fn statement(
     line: u32,
     mut words: WordReader,
 ) -> Result<Statement, LoadFault>
-    requires { length names.now ≤ 32 }
+    requires { length names.now ≤ MAX_BASES }
     ensures ok { IfOk result (λ statement. statement_line (map string_bytes names.now) words.entry ≡ Some statement) }
     ensures bounded { IfOk result (IsBoundedBy (length names.now)) }
     ensures fault { IfErr result (IsFaultIn (formed line (statement_line (map string_bytes names.now) words.entry))) }
@@ -234,7 +238,7 @@ fn from_identity(
     end: u32,
     names: Vec<String>,
 ) -> Result<Draft, LoadFault>
-    requires { length names.items ≤ 32 }
+    requires { length names.items ≤ MAX_BASES }
     ensures ok { IfOk result (λ draft. from_identity end lines.old (map string_bytes names.items) ≡ Ok draft) }
     ensures fault { IfErr result (IsFaultIn (from_identity end lines.old (map string_bytes names.items))) }
 {

@@ -1,6 +1,6 @@
 use super::{LoadFault, read, text};
 use calculus_builtin::{allen, point, rcc8};
-use calculus_table::{Calculus, TableFault};
+use calculus_table::{Calculus, MAX_BASES, TableFault};
 use std::alloc::{AllocError, Global};
 use std::process::Abort;
 use std::test::Fail;
@@ -111,81 +111,95 @@ fn canonical(alloc: Global, rows: &[u8]) -> Result<String, LoadFault> {
     text(alloc, &c).map_err(|_| LoadFault::Memory)
 }
 
-#[test]
-fn the_first_fault_is_named_with_its_place(rt: HostRuntime) {
-    for (rows, fault) in [
-        (
-            "names ( e )|identity e|e :: e|.|",
-            LoadFault::Missing { r: 0, s: Some(0) },
-        ),
-        (
-            "names ( e )|identity e|e : e :: ( e )|.|",
-            LoadFault::Missing { r: 0, s: None },
-        ),
-        (
-            "names ( e a )|identity e|a :: a|e :: e|a : e :: ( a )|e : e :: ( e )|.|",
-            LoadFault::Missing { r: 0, s: Some(1) },
-        ),
-        (
-            "names ( e e )|.|",
-            LoadFault::Table(TableFault::NameTwice { at: 1 }),
-        ),
-        (
-            "names ( e )|identity e|e :: e|e :: e|.|",
-            LoadFault::Twice { line: 4 },
-        ),
-        (
-            "names ( e )|identity e|e : e :: ( )|e : e :: ( e )|.|",
-            LoadFault::Twice { line: 4 },
-        ),
-        (
-            "names ( e )|identity e|e : f :: ( e )|.|",
-            LoadFault::Unknown { line: 3 },
-        ),
-        (
-            "names ( e )|identity e|e : e :: ( f )|e :: e|e :: e|",
-            LoadFault::Unknown { line: 3 },
-        ),
-        (
-            "names ( e )|identity e|e :: e|f :: e :|.|",
-            LoadFault::Syntax { line: 4 },
-        ),
-        ("names ( e )|identity f|.|", LoadFault::Unknown { line: 2 }),
-        (
-            "names ( e )|identity e|e :: e|e : e :: ( e )|",
-            LoadFault::Syntax { line: 5 },
-        ),
-        (
-            "names ( e )|identity e|e :: e|e : e :: ( e )",
-            LoadFault::Syntax { line: 5 },
-        ),
-        (
-            "names ( e )||identity e|# none||",
-            LoadFault::Syntax { line: 6 },
-        ),
-        ("names ( )|.|", LoadFault::Syntax { line: 1 }),
-        (
-            "names ( e a )|identity e|e :: e|a :: e|e : e :: ( e )|e : a :: ( a )|a : e :: ( a )|a : a :: ( e a )|.|",
-            LoadFault::Table(TableFault::NotInvolution { r: 1 }),
-        ),
-        (
-            "names ( e a )|identity e|e :: e|a :: a|e : e :: ( e )|e : a :: ( e a )|a : e :: ( a )|a : a :: ( e a )|.|",
-            LoadFault::Table(TableFault::IdentityLaw { r: 1 }),
-        ),
-    ] {
-        assert_eq!(rt;
-            read_rows(rt.alloc(), rows.as_bytes()).err(),
-            Some(fault),
-            "{rows}"
-        );
+// Each text, in which `|` stands for a line's end, is refused with its fault.
+fn are_refused(rt: &impl Abort, alloc: Global, rows: &[(&[u8], LoadFault)]) {
+    for (text, fault) in rows {
+        assert_eq!(rt; read_rows(alloc, text).err(), Some(*fault), "{text:?}");
     }
 }
 
 #[test]
-fn hostile_texts_are_refused_at_their_line(rt: HostRuntime) {
-    let rows: [(&[u8], LoadFault); 13] = [
-        (b"", LoadFault::Syntax { line: 1 }),
-        (b"# none|  # none", LoadFault::Syntax { line: 3 }),
+fn a_line_of_another_form_is_refused(rt: HostRuntime) {
+    let rows: [(&[u8], LoadFault); 5] = [
+        (
+            b"names ( e )|identity e|e :: e|f :: e :|.|",
+            LoadFault::Syntax { line: 4 },
+        ),
+        (
+            b"names ( e )|identity e|e :: e|e : e :: ( e )|",
+            LoadFault::Syntax { line: 5 },
+        ),
+        (
+            b"names ( e )|identity e|e :: e|e : e :: ( e )",
+            LoadFault::Syntax { line: 5 },
+        ),
+        (
+            b"names ( e )||identity e|# none||",
+            LoadFault::Syntax { line: 6 },
+        ),
+        (b"names ( )|.|", LoadFault::Syntax { line: 1 }),
+    ];
+    are_refused(&rt, rt.alloc(), &rows);
+}
+
+#[test]
+fn an_unknown_name_or_a_repeated_line_is_refused(rt: HostRuntime) {
+    let rows: [(&[u8], LoadFault); 5] = [
+        (
+            b"names ( e )|identity e|e :: e|e :: e|.|",
+            LoadFault::Twice { line: 4 },
+        ),
+        (
+            b"names ( e )|identity e|e : e :: ( )|e : e :: ( e )|.|",
+            LoadFault::Twice { line: 4 },
+        ),
+        (
+            b"names ( e )|identity e|e : f :: ( e )|.|",
+            LoadFault::Unknown { line: 3 },
+        ),
+        (
+            b"names ( e )|identity e|e : e :: ( f )|e :: e|e :: e|",
+            LoadFault::Unknown { line: 3 },
+        ),
+        (b"names ( e )|identity f|.|", LoadFault::Unknown { line: 2 }),
+    ];
+    are_refused(&rt, rt.alloc(), &rows);
+}
+
+#[test]
+fn a_table_that_is_no_calculus_is_refused(rt: HostRuntime) {
+    let rows: [(&[u8], LoadFault); 6] = [
+        (
+            b"names ( e )|identity e|e :: e|.|",
+            LoadFault::Missing { r: 0, s: Some(0) },
+        ),
+        (
+            b"names ( e )|identity e|e : e :: ( e )|.|",
+            LoadFault::Missing { r: 0, s: None },
+        ),
+        (
+            b"names ( e a )|identity e|a :: a|e :: e|a : e :: ( a )|e : e :: ( e )|.|",
+            LoadFault::Missing { r: 0, s: Some(1) },
+        ),
+        (
+            b"names ( e e )|.|",
+            LoadFault::Table(TableFault::NameTwice { at: 1 }),
+        ),
+        (
+            b"names ( e a )|identity e|e :: e|a :: e|e : e :: ( e )|e : a :: ( a )|a : e :: ( a )|a : a :: ( e a )|.|",
+            LoadFault::Table(TableFault::NotInvolution { r: 1 }),
+        ),
+        (
+            b"names ( e a )|identity e|e :: e|a :: a|e : e :: ( e )|e : a :: ( e a )|a : e :: ( a )|a : a :: ( e a )|.|",
+            LoadFault::Table(TableFault::IdentityLaw { r: 1 }),
+        ),
+    ];
+    are_refused(&rt, rt.alloc(), &rows);
+}
+
+#[test]
+fn a_line_with_a_hostile_byte_is_refused(rt: HostRuntime) {
+    let rows: [(&[u8], LoadFault); 8] = [
         (
             b"names ( e )|identity \x00e|.|",
             LoadFault::Syntax { line: 2 },
@@ -215,6 +229,15 @@ fn hostile_texts_are_refused_at_their_line(rt: HostRuntime) {
             b"names ( e\\ )|identity e|.|",
             LoadFault::Syntax { line: 1 },
         ),
+    ];
+    are_refused(&rt, rt.alloc(), &rows);
+}
+
+#[test]
+fn a_text_that_lacks_lines_or_has_too_many_is_refused(rt: HostRuntime) {
+    let rows: [(&[u8], LoadFault); 5] = [
+        (b"", LoadFault::Syntax { line: 1 }),
+        (b"# none|  # none", LoadFault::Syntax { line: 3 }),
         (
             b"names ( e )|identity e|e :: e|e : e :: ( e )|.|.|",
             LoadFault::Syntax { line: 6 },
@@ -228,9 +251,7 @@ fn hostile_texts_are_refused_at_their_line(rt: HostRuntime) {
             LoadFault::Syntax { line: 1 },
         ),
     ];
-    for (text, fault) in rows {
-        assert_eq!(rt; read_rows(rt.alloc(), text).err(), Some(fault), "{text:?}");
-    }
+    are_refused(&rt, rt.alloc(), &rows);
 }
 
 fn names_line(alloc: Global, count: u32) -> Result<String, AllocError> {
@@ -257,8 +278,8 @@ fn long_name(alloc: Global, length: u32) -> Result<String, AllocError> {
 fn names_have_their_limits(rt: HostRuntime) -> Result<(), Fail> {
     let alloc = rt.alloc();
     for (count, fault) in [
-        (32, LoadFault::Missing { r: 0, s: None }),
-        (33, LoadFault::TooMany { line: 1 }),
+        (MAX_BASES, LoadFault::Missing { r: 0, s: None }),
+        (MAX_BASES + 1, LoadFault::TooMany { line: 1 }),
     ] {
         let text = names_line(alloc, count)?;
         assert_eq!(rt;

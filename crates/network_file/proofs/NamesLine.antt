@@ -1,7 +1,6 @@
 -- The line of names.
-use Rattle.std.proofs.Common.{◌≡◌, ℕ, zero, suc, ◌<◌, ◌==◌, Bool, true, false, cond, ◌&&◌, ◌||◌, List, [], ◌∷◌, length, refl, sym, ◌∙◌, ap, subst, arith, slice_get, Option, Some, None, Ok, Err, option_map, option_and_then, is_some, bytes_eq}
+use Rattle.std.proofs.Common.{◌≡◌, ℕ, zero, suc, ◌<◌, Bool, true, false, cond, ◌||◌, List, [], ◌∷◌, length, refl, sym, ◌∙◌, ap, subst, arith, slice_get, Option, Some, None, Ok, Err, option_map, is_some, bytes_eq}
 use Rattle.std.specs.Option.{ok_or}
-use Rattle.std.specs.List.{list_all}
 use Rattle.std.proofs.lemmas.Option.{same_Some, slice_get_within}
 use Rattle.std.proofs.lemmas.Slice.Eq.{bytes_eq-Decides}
 use Rattle.calculus_table.specs.Calculus.{AreDistinct, IsFirstRepeat, Named}
@@ -11,56 +10,14 @@ use Rattle.network_words.specs.Network.{Network}
 use Rattle.network_words.proofs.NetsOfFacts.{IsNetOf-none}
 use Rattle.std.specs.Prelude.{replicate}
 use Rattle.qsr_lex.specs.Lexemes.{Lexeme}
-use Rattle.qsr_lex.specs.Names.{is_name}
 use Rattle.qsr_lex.specs.TextLines.{bad_line, line_count, readable_text}
 use Rattle.qsr_lex.specs.TokenLines.{TokenLine, token_line, token_lines}
 use Rattle.qsr_lex.proofs.CleanLines.{readable_text-all}
 use Rattle.network_file.specs.declared.text_end.TextEnd.{TextEnd}
-use Rattle.qsr_lex.specs.Words.{names_at, names_before_close, behind_kind, is_same_kind, is_name_token}
-use Rattle.qsr_lex.specs.declared.tokens.TokenKind.TheVariants.{Open, Close, Word}
-use Rattle.network_file.specs.LineForms.{names_form, behind_names, exactly, at_end}
+use Rattle.network_file.specs.LineForms.{names_form, behind_names}
 use Rattle.network_file.specs.NetworkFile.{◌>>=◌, place_of, has_twice, names_once, names_here, names_line, end_at, read_lines, read_network, IsNetworkOf}
 use Rattle.network_file.specs.declared.fault.FileFault.TheVariants.{Syntax, NameTwice}
-use Rattle.network_file.proofs.NamesRead.{and_r}
 use Rattle.network_file.proofs.PlacesOfNames.{place_of-none}
-
--- ---- the names of a line are names
-
-pub both : (a b : Bool) → a ≡ true → b ≡ true → a && b ≡ true
-both a b p q = rw (p, q) refl
-
-names-step : (close named : Bool) (x : Lexeme) (xs : List Lexeme) (rest : Option (List (List ℕ) × List Lexeme)) (found : List (List ℕ) × List Lexeme)
-    → ((f : List (List ℕ) × List Lexeme) → rest ≡ Some f → list_all is_name f.0 ≡ true) → (named ≡ true → is_name x.text ≡ true)
-    → cond close (Some ([], xs)) (cond named (option_map (λ f. (x.text ∷ f.0, f.1)) rest) None) ≡ Some found → list_all is_name found.0 ≡ true
-names-step true named x xs rest found below name h = subst (λ f. list_all is_name f.0 ≡ true) (same_Some ([], xs) found h) refl
-names-step false true x xs (Some f) found below name h =
-    subst (λ g. list_all is_name g.0 ≡ true) (same_Some (x.text ∷ f.0, f.1) found h) (both (is_name x.text) (list_all is_name f.0) (name refl) (below f refl))
-names-step false true x xs None found below name h = cc
-names-step false false x xs rest found below name h = cc
-
-names_before_close-names : (xs : List Lexeme) (found : List (List ℕ) × List Lexeme) → names_before_close xs ≡ Some found → list_all is_name found.0 ≡ true
-names_before_close-names [] found h = cc
-names_before_close-names (x ∷ xs) found h =
-    names-step (is_same_kind x.kind Close) (is_name_token x) x xs (names_before_close xs) found (names_before_close-names xs)
-    (and_r (is_same_kind x.kind Word) (is_name x.text)) h
-
-names-open : (o : Option (List Lexeme)) (found : List (List ℕ) × List Lexeme) → option_and_then names_before_close o ≡ Some found → list_all is_name found.0 ≡ true
-names-open None found h = cc
-names-open (Some xs) found h = names_before_close-names xs found h
-
-names-exact : (b : Bool) (found : List (List ℕ)) (rest : List Lexeme) (names : List (List ℕ)) → list_all is_name found ≡ true →
-    option_and_then (λ ns. at_end ns rest) (cond b (Some found) None) ≡ Some names → list_all is_name names ≡ true
-names-exact true found [] names all h = subst (λ ns. list_all is_name ns ≡ true) (same_Some found names h) all
-names-exact true found (x ∷ xs) names all h = cc
-names-exact false found rest names all h = cc
-
-names-form : (n : ℕ) (o : Option (List (List ℕ) × List Lexeme)) (names : List (List ℕ)) → ((f : List (List ℕ) × List Lexeme) → o ≡ Some f → list_all is_name f.0 ≡ true) →
-    option_and_then (λ found. option_and_then (λ ns. at_end ns found.1) (exactly n found.0)) o ≡ Some names → list_all is_name names ≡ true
-names-form n None names all h = cc
-names-form n (Some f) names all h = names-exact (length f.0 == n) f.0 f.1 names (all f refl) h
-
-pub names_form-names : (n : ℕ) (words : List Lexeme) (names : List (List ℕ)) → names_form n words ≡ Some names → list_all is_name names ≡ true
-names_form-names n words names h = names-form n (names_at words) names (λ f e. names-open (behind_kind Open words) f e) h
 
 -- ---- names that differ, and names of which one stands twice
 

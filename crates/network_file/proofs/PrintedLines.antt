@@ -1,8 +1,8 @@
 -- The canonical text of a network is printed of lines of tokens.
-use Rattle.std.proofs.Common.{◌≡◌, ℕ, zero, suc, ◌^◌, ◌<◌, ◌≤◌, ◌==◌, Bool, true, false, cond, nat_lt, List, [], ◌∷◌, ◌++◌, length, map, take, refl, sym, ◌∙◌, ap, subst, arith, append_assoc, append-nil, slice_get, slice_index, unwrap_or, codes, decimal, ◌⊎◌, inl, inr}
+use Rattle.std.proofs.Common.{◌≡◌, ℕ, zero, suc, ◌^◌, ◌<◌, ◌≤◌, ◌==◌, Bool, true, false, cond, nat_lt, List, [], ◌∷◌, ◌++◌, length, map, take, refl, sym, ◌∙◌, ap, subst, arith, append_assoc, append-nil, slice_get, slice_index, unwrap_or, codes, decimal, ◌&&◌, ◌⊎◌, inl, inr}
 use Rattle.std.specs.Int.{bit_at}
 use Rattle.std.specs.List.{list_all, flat_map, AllByRecursion}
-use Rattle.std.proofs.lemmas.Bool.{cases_lt, lt-ltb, ltb-true}
+use Rattle.std.proofs.lemmas.Bool.{and_parts, cases_lt, lt-ltb, ltb-true}
 use Rattle.std.proofs.lemmas.Bool.Decides.{nat_tests}
 use Rattle.std.proofs.lemmas.Grind.{flat_map-append}
 use Rattle.std.proofs.lemmas.List.{take_all}
@@ -10,13 +10,12 @@ use Rattle.std.proofs.lemmas.List.Folds.{list_all-append}
 use Rattle.calculus_table.specs.Calculus.{Named}
 use Rattle.network_words.specs.Edge.{edge_at}
 use Rattle.network_words.specs.Network.{Network}
+use Rattle.network_words.specs.declared.TheConstants.{MAX_NODES}
 use Rattle.qsr_lex.specs.Names.{is_name}
 use Rattle.qsr_lex.specs.Printed.{is_token_text, are_tokens, spaced, printed_line, printed}
 use Rattle.qsr_lex.proofs.PrintedNames.{IsPrintedName-from_test}
 use Rattle.qsr_lex.proofs.PrintedNumbers.{IsPrintedNumber-below}
 use Rattle.network_file.specs.NetworkText.{text_below, word_text, member_text, set_text, edge_line, later_line, row_text, network_text}
-use Rattle.network_file.proofs.NamesRead.{and_l, and_r}
-use Rattle.network_file.proofs.NamesLine.{both}
 
 -- ---- the pairs of nodes in edge order
 
@@ -166,14 +165,21 @@ network_text-printed c net l =
 
 -- ---- each text of the lines is a token
 
+both : (a b : Bool) → a ≡ true → b ≡ true → a && b ≡ true
+both a b p q = rw (p, q) refl
+
+-- a number up to the limit of nodes has no more digits than a number may have
+pub small : (k : ℕ) → k ≤ MAX_NODES → k < 10 ^ 18
+small k h = omega arith
+
 all_cond : (b : Bool) (w : List ℕ) → is_name w ≡ true → list_all is_name (cond b (w ∷ []) []) ≡ true
 all_cond true w h = both (is_name w) true h refl
 all_cond false w h = refl
 
 name_at : (names : List (List ℕ)) (k : ℕ) → k < length names → list_all is_name names ≡ true → is_name (unwrap_or (slice_get names k) []) ≡ true
 name_at [] k b h = absurd (omega arith)
-name_at (x ∷ xs) zero b h = and_l (is_name x) (list_all is_name xs) h
-name_at (x ∷ xs) (suc k) b h = name_at xs k (omega arith) (and_r (is_name x) (list_all is_name xs) h)
+name_at (x ∷ xs) zero b h = (and_parts (is_name x) (list_all is_name xs) h).0
+name_at (x ∷ xs) (suc k) b h = name_at xs k (omega arith) (and_parts (is_name x) (list_all is_name xs) h).1
 
 pub members_below-names : (names : List (List ℕ)) (a k : ℕ) → k ≤ length names → list_all is_name names ≡ true → list_all is_name (members_below names a k) ≡ true
 unfolding members_below
@@ -187,26 +193,23 @@ members_below-names names a (suc r) b h =
 names_are_tokens : (ws : List (List ℕ)) → list_all is_name ws ≡ true → list_all is_token_text (ws ++ (41 ∷ []) ∷ []) ≡ true
 names_are_tokens [] h = refl
 names_are_tokens (w ∷ ws) h =
-    both (is_token_text w) (list_all is_token_text (ws ++ (41 ∷ []) ∷ [])) (IsPrintedName-from_test w (and_l (is_name w) (list_all is_name ws) h)).token
-    (names_are_tokens ws (and_r (is_name w) (list_all is_name ws) h))
+    both (is_token_text w) (list_all is_token_text (ws ++ (41 ∷ []) ∷ [])) (IsPrintedName-from_test w (and_parts (is_name w) (list_all is_name ws) h).0).token
+    (names_are_tokens ws (and_parts (is_name w) (list_all is_name ws) h).1)
 
 -- a pair of nodes in edge order
 pub record IsPair (n : ℕ) (p : ℕ × ℕ) : Type 0 where
   pub order : p.0 < p.1
   pub below : p.1 < n
 
-edge_tokens : (c : Named) (net : Network) (p : ℕ × ℕ) → net.nodes ≤ 128 → length c.names ≡ c.meaning.size → list_all is_name c.names ≡ true → IsPair net.nodes p → are_tokens (edge_words c net p) ≡ true
+edge_tokens : (c : Named) (net : Network) (p : ℕ × ℕ) → net.nodes ≤ MAX_NODES → length c.names ≡ c.meaning.size → list_all is_name c.names ≡ true → IsPair net.nodes p → are_tokens (edge_words c net p) ≡ true
 edge_tokens c net p few one_each names pair =
     let a = slice_index net.words (edge_at net.nodes p.0 p.1) in
     let ws = members_below c.names a c.meaning.size ++ (41 ∷ []) ∷ [] in
     both (is_token_text (decimal p.0)) (list_all is_token_text (decimal p.1 ∷ (40 ∷ []) ∷ ws)) (IsPrintedNumber-below p.0 (small p.0 (omega arith))).token
     (both (is_token_text (decimal p.1)) (list_all is_token_text ((40 ∷ []) ∷ ws)) (IsPrintedNumber-below p.1 (small p.1 (omega arith))).token
     (names_are_tokens (members_below c.names a c.meaning.size) (members_below-names c.names a c.meaning.size (omega arith) names)))
-  where
-    small : (k : ℕ) → k < 128 → k < 10 ^ 18
-    small k h = omega arith
 
-edges_tokens : (c : Named) (net : Network) (ps : List (ℕ × ℕ)) → net.nodes ≤ 128 → length c.names ≡ c.meaning.size → list_all is_name c.names ≡ true → AllByRecursion (IsPair net.nodes) ps →
+edges_tokens : (c : Named) (net : Network) (ps : List (ℕ × ℕ)) → net.nodes ≤ MAX_NODES → length c.names ≡ c.meaning.size → list_all is_name c.names ≡ true → AllByRecursion (IsPair net.nodes) ps →
     list_all are_tokens (map (edge_words c net) ps ++ ((46 ∷ []) ∷ []) ∷ []) ≡ true
 edges_tokens c net [] few one_each names pairs = refl
 edges_tokens c net (p ∷ ps) few one_each names pairs =
@@ -217,15 +220,12 @@ names_tokens : (names : List (List ℕ)) (rest : List (List (List ℕ))) → lis
 names_tokens [] rest h k = k
 names_tokens (x ∷ xs) rest h k = both (are_tokens (names_words (x ∷ xs))) (list_all are_tokens rest) (names_are_tokens (x ∷ xs) h) k
 
-pub file_tokens : (c : Named) (net : Network) (ps : List (ℕ × ℕ)) → net.nodes ≤ 128 → length c.names ≡ c.meaning.size → list_all is_name c.names ≡ true → list_all is_name net.names ≡ true → AllByRecursion (IsPair net.nodes) ps →
+pub file_tokens : (c : Named) (net : Network) (ps : List (ℕ × ℕ)) → net.nodes ≤ MAX_NODES → length c.names ≡ c.meaning.size → list_all is_name c.names ≡ true → list_all is_name net.names ≡ true → AllByRecursion (IsPair net.nodes) ps →
     list_all are_tokens (file_lines c net ps) ≡ true
 file_tokens c net ps few one_each names own pairs =
     both (are_tokens (codes "nodes" ∷ decimal net.nodes ∷ [])) (list_all are_tokens (names_lines net.names ++ (map (edge_words c net) ps ++ ((46 ∷ []) ∷ []) ∷ [])))
     (both (is_token_text (decimal net.nodes)) true (IsPrintedNumber-below net.nodes (small net.nodes (omega arith))).token refl)
     (names_tokens net.names (map (edge_words c net) ps ++ ((46 ∷ []) ∷ []) ∷ []) own (edges_tokens c net ps few one_each names pairs))
-  where
-    small : (k : ℕ) → k < 129 → k < 10 ^ 18
-    small k h = omega arith
 
 -- ---- the pairs are in edge order, and each is among them
 

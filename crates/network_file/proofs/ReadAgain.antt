@@ -18,6 +18,7 @@ use Rattle.calculus_table.proofs.Compositions.{InUnion, union_below-member, Has-
 use Rattle.network_words.specs.Edge.{edge_at}
 use Rattle.network_words.specs.Network.{Network}
 use Rattle.network_words.specs.Facts.{Allows, IsNetOf}
+use Rattle.network_words.specs.declared.TheConstants.{MAX_NODES}
 use Rattle.network_words.specs.declared.fact.Fact.{Fact}
 use Rattle.network_words.proofs.NetsOfFacts.{IsNetOf-unique}
 use Rattle.qsr_lex.specs.Lexemes.{Lexeme}
@@ -42,7 +43,7 @@ use Rattle.network_file.specs.declared.fault.FileFault.{FileFault}
 use Rattle.network_file.specs.declared.fault.FileFault.TheVariants.{Nodes, Syntax, NoNode, SelfEdge, Unknown}
 use Rattle.network_file.proofs.PlacesOfNames.{place_of-found}
 use Rattle.network_file.proofs.NamesLine.{has_twice-distinct, names_line-read}
-use Rattle.network_file.proofs.PrintedLines.{pairs_below, members_below, members_below-names, edge_words, names_words, names_lines, file_lines, network_text-printed, IsPair, file_tokens, pairs_below-pairs, Among, pairs_below-has}
+use Rattle.network_file.proofs.PrintedLines.{small, pairs_below, members_below, members_below-names, edge_words, names_words, names_lines, file_lines, network_text-printed, IsPair, file_tokens, pairs_below-pairs, Among, pairs_below-has}
 
 -- ---- a union over the members of a set, one base relation after another
 
@@ -126,16 +127,13 @@ low-all m a w = IsWithin-antisym (low a m.size) a
 
 -- ---- the first line
 
-small : (k : ℕ) → k < 129 → k < 10 ^ 18
-small k h = omega arith
-
 abbrev after_nodes : Named → TextEnd → ℕ × List TokenLine → Result Said FileFault
 after_nodes c end first = names_line first.0 first.1 >>= λ named. fact_lines c end first.0 named.0 [] named.1 >>= λ facts. Ok (record { nodes = first.0; names = named.0; facts = facts })
 
-nodes_test : (n : ℕ) → 0 < n → n ≤ 128 → (n == 0 || nat_lt 128 n) ≡ false
+nodes_test : (n : ℕ) → 0 < n → n ≤ MAX_NODES → (n == 0 || nat_lt MAX_NODES n) ≡ false
 nodes_test n some few = grind (arith, nat_tests)
 
-nodes_line-printed : (end : TextEnd) (line n : ℕ) (rest : List TokenLine) → 0 < n → n ≤ 128 → nodes_line end (token_line line (map lexeme_from (codes "nodes" ∷ decimal n ∷ [])) ∷ rest) ≡ Ok (n, rest)
+nodes_line-printed : (end : TextEnd) (line n : ℕ) (rest : List TokenLine) → 0 < n → n ≤ MAX_NODES → nodes_line end (token_line line (map lexeme_from (codes "nodes" ∷ decimal n ∷ [])) ∷ rest) ≡ Ok (n, rest)
 nodes_line-printed end line n rest some few =
     let num = IsPrintedNumber-below n (small n (omega arith)) in
     let form : nodes_form (map lexeme_from (codes "nodes" ∷ decimal n ∷ [])) ≡ Some n =
@@ -154,7 +152,7 @@ named_form n names all l =
 none_some : (i : ℕ) → (let o : Option ℕ = None in o) ≡ Some i → ⊥
 none_some i h = cc
 
-no_names_word : (i : ℕ) (rest : List Lexeme) → i < 128 → behind_names (lexeme_from (decimal i) ∷ rest) ≡ None
+no_names_word : (i : ℕ) (rest : List Lexeme) → i < MAX_NODES → behind_names (lexeme_from (decimal i) ∷ rest) ≡ None
 no_names_word i rest few =
     let num = IsPrintedNumber-below i (small i (omega arith)) in
     let other : bytes_eq (decimal i) (codes "names") ≡ false =
@@ -168,12 +166,12 @@ abbrev line_behind : List (List ℕ) → ℕ
 line_behind [] = 2
 line_behind (x ∷ xs) = 3
 
-names_line-printed : (c : Named) (net : Network) (ps : List (ℕ × ℕ)) (names : List (List ℕ)) → net.nodes ≤ 128 → AllByRecursion (IsPair net.nodes) ps → list_all is_name names ≡ true → AreDistinct names →
+names_line-printed : (c : Named) (net : Network) (ps : List (ℕ × ℕ)) (names : List (List ℕ)) → net.nodes ≤ MAX_NODES → AllByRecursion (IsPair net.nodes) ps → list_all is_name names ≡ true → AreDistinct names →
     (0 < length names → length names ≡ net.nodes) →
     names_line net.nodes (printed_token_lines 2 (names_lines names ++ (map (edge_words c net) ps ++ end_line))) ≡ Ok (names, printed_token_lines (line_behind names) (map (edge_words c net) ps ++ end_line))
 names_line-printed c net [] [] few pairs all d l = refl
 names_line-printed c net (p ∷ ps) [] few pairs all d l =
-    let first : p.0 < 128 = omega (arith, pairs.0.order, pairs.0.below) in
+    let first : p.0 < MAX_NODES = omega (arith, pairs.0.order, pairs.0.below) in
     let lines = printed_token_lines 2 (map (edge_words c net) (p ∷ ps) ++ end_line) in
     let rest = map lexeme_from (decimal p.1 ∷ (40 ∷ []) ∷ (members_below c.names (slice_index net.words (edge_at net.nodes p.0 p.1)) c.meaning.size ++ (41 ∷ []) ∷ [])) in
     ap (names_here net.nodes (token_line 2 (lexeme_from (decimal p.0) ∷ rest)) (printed_token_lines 3 (map (edge_words c net) ps ++ end_line))) (no_names_word p.0 rest first)
@@ -192,13 +190,13 @@ words_from i j set = record { first = i; second = j; set = set }
 abbrev fact_at : Network → ℕ × ℕ → Fact
 fact_at net p = fact_from p.0 p.1 (slice_index net.words (edge_at net.nodes p.0 p.1))
 
-node_at-printed : (named : Bool) (i : ℕ) (rest : List Lexeme) → i < 128 → node_at named (lexeme_from (decimal i) ∷ rest) ≡ Some (decimal i, rest)
+node_at-printed : (named : Bool) (i : ℕ) (rest : List Lexeme) → i < MAX_NODES → node_at named (lexeme_from (decimal i) ∷ rest) ≡ Some (decimal i, rest)
 node_at-printed named i rest few =
     let num = IsPrintedNumber-below i (small i (omega arith)) in
     ap (λ k. option_and_then (λ found. as_node named found) (cond (is_same_kind k Word) (Some (decimal i, rest)) None)) num.word
     ∙ ap (λ o. cond (is_some o || (named && is_name (decimal i))) (Some (decimal i, rest)) None) num.number
 
-fact_form-printed : (named : Bool) (i j : ℕ) (ms : List (List ℕ)) → i < 128 → j < 128 → list_all is_name ms ≡ true →
+fact_form-printed : (named : Bool) (i j : ℕ) (ms : List (List ℕ)) → i < MAX_NODES → j < MAX_NODES → list_all is_name ms ≡ true →
     fact_form named (map lexeme_from (decimal i ∷ decimal j ∷ (40 ∷ []) ∷ (ms ++ (41 ∷ []) ∷ []))) ≡ Some (words_from (decimal i) (decimal j) ms)
 fact_form-printed named i j ms few more all =
     let behind = map lexeme_from ((40 ∷ []) ∷ (ms ++ (41 ∷ []) ∷ [])) in
@@ -207,7 +205,7 @@ fact_form-printed named i j ms few more all =
     ∙ ap (λ o. option_and_then (λ (second : List ℕ × List Lexeme). option_and_then (λ (set : List (List ℕ) × List Lexeme). at_end (words_from (decimal i) second.0 set.0) set.1) (names_at second.1)) o) (node_at-printed named j behind more)
     ∙ ap (λ o. option_and_then (λ (set : List (List ℕ) × List Lexeme). at_end (words_from (decimal i) (decimal j) set.0) set.1) o) (IsPrintedSet-from_tests ms [] all).read
 
-node_of-printed : (n line i : ℕ) (names : List (List ℕ)) → i < 128 → i < n → node_of n names line (decimal i) ≡ Ok i
+node_of-printed : (n line i : ℕ) (names : List (List ℕ)) → i < MAX_NODES → i < n → node_of n names line (decimal i) ≡ Ok i
 node_of-printed n line i names few below =
     ap (node_by n names line (decimal i)) (IsPrintedNumber-below i (small i (omega arith))).number ∙ ap (λ b. cond b (Ok i) (Err (NoNode line))) (lt-ltb i n below)
 
@@ -231,8 +229,8 @@ fact_line-printed c net line p h pair =
     let a = slice_index net.words (edge_at net.nodes p.0 p.1) in
     let ms = members_below c.names a c.meaning.size in
     let below : p.0 < net.nodes = omega (arith, pair.order, pair.below) in
-    let few : p.0 < 128 = omega (arith, h.shape.bounded, below) in
-    let more : p.1 < 128 = omega (arith, h.shape.bounded, pair.below) in
+    let few : p.0 < MAX_NODES = omega (arith, h.shape.bounded, below) in
+    let more : p.1 < MAX_NODES = omega (arith, h.shape.bounded, pair.below) in
     let one_each : length c.names ≡ c.meaning.size = h.calculus.one_each in
     let names = members_below-names c.names a c.meaning.size (omega (arith, one_each)) h.bases in
     ap (λ o. ok_or o (Syntax line) >>= first_step c net.nodes net.names line) (fact_form-printed (is_named net.names) p.0 p.1 ms few more names)
@@ -244,7 +242,7 @@ fact_line-printed c net line p h pair =
 
 -- ---- the lines of facts
 
-fact_no_end : (c : Named) (net : Network) (p : ℕ × ℕ) → p.0 < 128 → is_end_form (map lexeme_from (edge_words c net p)) ≡ false
+fact_no_end : (c : Named) (net : Network) (p : ℕ × ℕ) → p.0 < MAX_NODES → is_end_form (map lexeme_from (edge_words c net p)) ≡ false
 fact_no_end c net p few =
     let rest = map lexeme_from (decimal p.1 ∷ (40 ∷ []) ∷ (members_below c.names (slice_index net.words (edge_at net.nodes p.0 p.1)) c.meaning.size ++ (41 ∷ []) ∷ [])) in
     ap (λ k. is_nothing (cond (is_same_kind k Stop) (Some rest) None)) (IsPrintedNumber-below p.0 (small p.0 (omega arith))).word
@@ -253,7 +251,7 @@ fact_lines-printed : (c : Named) (net : Network) (k line : ℕ) (ps : List (ℕ 
     fact_lines c (Whole k) net.nodes net.names facts (printed_token_lines line (map (edge_words c net) ps ++ end_line)) ≡ Ok (facts ++ map (fact_at net) ps)
 fact_lines-printed c net k line [] facts h pairs = ap Ok (sym (append-nil facts))
 fact_lines-printed c net k line (p ∷ ps) facts h pairs =
-    let few : p.0 < 128 = omega (arith, h.shape.bounded, pairs.0.order, pairs.0.below) in
+    let few : p.0 < MAX_NODES = omega (arith, h.shape.bounded, pairs.0.order, pairs.0.below) in
     let behind = printed_token_lines (line + 1) (map (edge_words c net) ps ++ end_line) in
     let l = token_line line (map lexeme_from (edge_words c net p)) in
     ap (λ b. cond b (closed (Whole k) facts behind) (fact_line c net.nodes net.names l >>= λ fact. fact_lines c (Whole k) net.nodes net.names (facts ++ fact ∷ []) behind)) (fact_no_end c net p few)
@@ -298,7 +296,7 @@ net_of_edges c net h =
 pub printed_is_read : (c : Named) (net : Network) → IsPrintable c net → IsFileOf c (network_text c net) net
 printed_is_read c net h =
     let n = net.nodes in
-    let few : n ≤ 128 = h.shape.bounded in
+    let few : n ≤ MAX_NODES = h.shape.bounded in
     let some : 0 < n = h.shape.some in
     let ps = pairs_below n n in
     let pairs = pairs_below-pairs n n in

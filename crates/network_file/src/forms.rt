@@ -1,5 +1,6 @@
 //! The forms of the lines of a network file.
-ghost use Rattle.std.specs.Prelude.{◌≡◌, map, IfOk, IsErrOf, MatchOption, Some, None};
+ghost use Rattle.std.specs.Prelude.{◌≡◌, map, All, IfOk, IsErrOf, MatchOption, Some, None, true};
+ghost use Rattle.qsr_lex.specs.Names.{is_name};
 ghost use Rattle.network_file.specs.LineForms.{nodes_form, names_form, node_at, is_node_word, fact_form};
 
 use qsr_lex::{NamesStop, WordReader, is_name, number};
@@ -31,6 +32,7 @@ pub(crate) fn names_form<'a>(
     words: &mut WordReader<'a>,
 ) -> Result<Vec<&'a [u8]>, NamesStop>
     ensures ok { IfOk result (λ names. names_form count words.old ≡ Some (map (λ name. name.now) names.items)) }
+    ensures each { IfOk result (λ names. All (λ name. is_name name.now ≡ true) names.items) }
     ensures form { IsErrOf result NamesStop.Form → names_form count words.old ≡ None }
 {
     let names = words.names(alloc)?;

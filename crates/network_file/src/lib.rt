@@ -5,7 +5,6 @@ mod facts;
 mod fault;
 mod forms;
 mod laws;
-mod names;
 mod reading;
 #[cfg(test)]
 mod tests;

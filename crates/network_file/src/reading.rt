@@ -5,11 +5,10 @@ ghost use Rattle.network_file.specs.NetworkFile.{FailsWith, nodes_line, names_li
 use crate::facts::read_facts;
 use crate::fault::{FileFault, form_fault};
 use crate::forms::{names_form, nodes_form};
-use crate::names::owned;
 use crate::text_end::{TextEnd, end_at, end_fault};
 use calculus_table::{Calculus, Compose};
 use network_words::{MAX_NODES, Net, NetFault};
-use qsr_lex::{LineReader, readable};
+use qsr_lex::{LineReader, owned_names, readable};
 use std::alloc::Global;
 
 /// A network without names and facts, of as many nodes as the first line says.
@@ -60,7 +59,7 @@ fn read_names(alloc: Global, lines: &mut LineReader<'_>, net: &mut Net) -> Resul
         Ok(names) => names,
         Err(stop) => return Err(form_fault(number, stop)),
     };
-    let Ok(names) = owned(alloc, &names) else {
+    let Ok(names) = owned_names(alloc, &names) else {
         return Err(FileFault::Memory);
     };
     match net.set_names(names) {

@@ -3,7 +3,7 @@ ghost use Rattle.std.specs.Prelude.{◌≡◌, IfOk, length};
 
 use super::*;
 use calculus_table::{Calculus, Rel, TableFault};
-use network_words::Net;
+use network_words::{MAX_NODES, Net};
 use std::alloc::Global;
 use std::process::Abort;
 use std::test::Fail;
@@ -111,15 +111,22 @@ fn facts_are_met(rt: HostRuntime) -> Result<(), Fail> {
     Ok(())
 }
 
-#[test]
-fn the_first_faulty_line_decides(rt: HostRuntime) -> Result<(), Fail> {
-    let alloc = rt.alloc();
+// Each text is refused with its fault.
+fn are_refused(
+    rt: &impl Abort,
+    alloc: Global,
+    rows: &[(&[u8], FileFault)],
+) -> Result<(), TableFault> {
     let c = points(alloc)?;
-    let rows: [(&[u8], FileFault); 33] = [
-        (b"", FileFault::NoEnd { lines: 0 }),
-        (b"\n#\n", FileFault::NoEnd { lines: 2 }),
-        (b"nodes 2\n0 1 ( < )", FileFault::NoEnd { lines: 2 }),
-        (b"nodes 2\nnames ( a b )\n\n", FileFault::NoEnd { lines: 3 }),
+    for (text, fault) in rows {
+        assert_eq!(rt; read_short(alloc, text, &c).err(), Some(*fault), "{text:?}");
+    }
+    Ok(())
+}
+
+#[test]
+fn a_faulty_first_line_is_refused(rt: HostRuntime) -> Result<(), Fail> {
+    let rows: [(&[u8], FileFault); 6] = [
         (b".\n", FileFault::Syntax { line: 1 }),
         (b"nodes\n.\n", FileFault::Syntax { line: 1 }),
         (b"nodes 2 2\n.\n", FileFault::Syntax { line: 1 }),
@@ -128,8 +135,23 @@ fn the_first_faulty_line_decides(rt: HostRuntime) -> Result<(), Fail> {
             FileFault::Syntax { line: 1 },
         ),
         (b"nodes 0\n.\n", FileFault::Nodes { line: 1 }),
-        (b"\nnodes 129\n", FileFault::Nodes { line: 2 }),
         (b"nodes 123456789012345678\n", FileFault::Nodes { line: 1 }),
+    ];
+    are_refused(&rt, rt.alloc(), &rows)?;
+    let alloc = rt.alloc();
+    let most = format!(in alloc; "\nnodes {}\n", MAX_NODES)?;
+    let more = format!(in alloc; "\nnodes {}\n", MAX_NODES + 1)?;
+    let limits = [
+        (most.as_bytes(), FileFault::NoEnd { lines: 2 }),
+        (more.as_bytes(), FileFault::Nodes { line: 2 }),
+    ];
+    are_refused(&rt, alloc, &limits)?;
+    Ok(())
+}
+
+#[test]
+fn a_faulty_line_of_names_is_refused(rt: HostRuntime) -> Result<(), Fail> {
+    let rows: [(&[u8], FileFault); 6] = [
         (b"nodes 2\nnames ( a )\n.\n", FileFault::Syntax { line: 2 }),
         (
             b"nodes 2\nnames ( a b c )\n.\n",
@@ -148,6 +170,14 @@ fn the_first_faulty_line_decides(rt: HostRuntime) -> Result<(), Fail> {
             b"nodes 2\n0 1 ( < )\nnames ( a b )\n.\n",
             FileFault::Syntax { line: 3 },
         ),
+    ];
+    are_refused(&rt, rt.alloc(), &rows)?;
+    Ok(())
+}
+
+#[test]
+fn a_faulty_fact_is_refused(rt: HostRuntime) -> Result<(), Fail> {
+    let rows: [(&[u8], FileFault); 12] = [
         (b"nodes 2\na 1 ( < )\n.\n", FileFault::Syntax { line: 2 }),
         (b"nodes 2\n0 ( < )\n.\n", FileFault::Syntax { line: 2 }),
         (b"nodes 2\n0 1 <\n.\n", FileFault::Syntax { line: 2 }),
@@ -172,6 +202,18 @@ fn the_first_faulty_line_decides(rt: HostRuntime) -> Result<(), Fail> {
             b"nodes 2\nnames ( a b )\n2 c ( < )\n.\n",
             FileFault::NoNode { line: 3 },
         ),
+    ];
+    are_refused(&rt, rt.alloc(), &rows)?;
+    Ok(())
+}
+
+#[test]
+fn a_faulty_end_or_a_hostile_byte_is_refused(rt: HostRuntime) -> Result<(), Fail> {
+    let rows: [(&[u8], FileFault); 9] = [
+        (b"", FileFault::NoEnd { lines: 0 }),
+        (b"\n#\n", FileFault::NoEnd { lines: 2 }),
+        (b"nodes 2\n0 1 ( < )", FileFault::NoEnd { lines: 2 }),
+        (b"nodes 2\nnames ( a b )\n\n", FileFault::NoEnd { lines: 3 }),
         (b"nodes 2\n. x\n", FileFault::Syntax { line: 2 }),
         (b"nodes 2\n.\n.\n", FileFault::Syntax { line: 3 }),
         (b"nodes 2\n.\n\x80\n", FileFault::Syntax { line: 3 }),
@@ -179,15 +221,12 @@ fn the_first_faulty_line_decides(rt: HostRuntime) -> Result<(), Fail> {
             b"nodes 2\n0 1 ( < ) \x80\n0 0 ( < )\n.\n",
             FileFault::Syntax { line: 2 },
         ),
+        (
+            b"nodes 2\n0 0 ( < )\n\x80\n",
+            FileFault::SelfEdge { line: 2 },
+        ),
     ];
-    for (text, fault) in rows {
-        assert_eq!(rt; read_short(alloc, text, &c).err(), Some(fault));
-    }
-    let early: &[u8] = b"nodes 2\n0 0 ( < )\n\x80\n";
-    assert_eq!(rt;
-        read_short(alloc, early, &c).err(),
-        Some(FileFault::SelfEdge { line: 2 })
-    );
+    are_refused(&rt, rt.alloc(), &rows)?;
     Ok(())
 }
 

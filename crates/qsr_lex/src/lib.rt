@@ -11,7 +11,7 @@ mod scan;
 mod tests;
 mod tokens;
 
-pub use names::{is_name, name_text};
+pub use names::{is_name, name_text, owned_names};
 pub use numbers::{number, signed};
 pub use printing::{
     printed_name_is_read_again, printed_number_is_read_again, printed_set_is_read_again,

@@ -1,9 +1,11 @@
 //! The words that may name something.
-ghost use Rattle.std.specs.Prelude.{◌≡◌, true};
+ghost use Rattle.std.specs.Prelude.{◌≡◌, true, map, All, IfOk};
 ghost use Rattle.std.specs.List.{list_all};
+ghost use Rattle.std.specs.String.{string_bytes};
 ghost use Rattle.qsr_lex.specs.Names.{is_name, is_name_byte, starts_with_digit, is_stop};
 
 use crate::bytes::{is_allowed, is_word_byte};
+use std::alloc::{AllocError, Global};
 
 /// The longest name, in bytes.
 const LONGEST_NAME: usize = 64;
@@ -29,6 +31,25 @@ pub fn name_text(name: &[u8]) -> &str
         Ok(text) => text,
         Err(_) => unreachable!(),
     }
+}
+
+fn owned_name(alloc: Global, name: &[u8]) -> Result<String, AllocError>
+    requires { is_name name.now ≡ true }
+    ensures { IfOk result (λ text. string_bytes text ≡ name.now) }
+{
+    String::from_str(alloc, name_text(name))
+}
+
+/// Names as texts of their own.
+pub fn owned_names(alloc: Global, names: &[&[u8]]) -> Result<Vec<String>, AllocError>
+    requires { All (λ name. is_name name.now ≡ true) names.now }
+    ensures { IfOk result (λ texts. map string_bytes texts.items ≡ map (λ name. name.now) names.now) }
+{
+    let mut texts = Vec::new(alloc);
+    for name in names {
+        texts.push(owned_name(alloc, name)?)?;
+    }
+    Ok(texts)
 }
 
 fn are_name_bytes(text: &[u8]) -> bool

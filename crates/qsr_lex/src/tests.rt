@@ -2,8 +2,8 @@
 ghost use Rattle.std.specs.Prelude.{◌≤◌, length};
 
 use crate::{
-    LexStop, LineReader, NamesStop, Token, TokenKind, is_name, lines, name_text, number, readable,
-    signed,
+    LexStop, LineReader, NamesStop, Token, TokenKind, is_name, lines, name_text, number,
+    owned_names, readable, signed,
 };
 use std::alloc::Global;
 use std::process::Abort;
@@ -111,13 +111,16 @@ fn a_line_is_read_word_by_word(rt: HostRuntime) -> Result<(), Fail> {
 
 #[test]
 fn names_in_brackets_are_read(rt: HostRuntime) -> Result<(), Fail> {
-    let text = b"( A A ) ( ) ( 0 )";
-    let found = readable(rt.alloc(), text)?;
+    let alloc = rt.alloc();
+    let text = b"( A A b ) ( ) ( 0 )";
+    let found = readable(alloc, text)?;
     let mut rest = LineReader::new(text, found.tokens.as_slice());
     let mut words = rest.next_line().ok_or("a line")?.words;
-    assert_eq!(rt; words.names(rt.alloc())?.len(), 2);
-    assert!(rt; words.names(rt.alloc())?.is_empty());
-    match words.names(rt.alloc()) {
+    let names = owned_names(alloc, &words.names(alloc)?)?;
+    assert_eq!(rt; names.len(), 3);
+    assert_eq!(rt; names.last().ok_or("a name")?.as_str(), "b");
+    assert!(rt; words.names(alloc)?.is_empty());
+    match words.names(alloc) {
         Err(NamesStop::Form) => Ok(()),
         _ => Err("0 is no name".into()),
     }

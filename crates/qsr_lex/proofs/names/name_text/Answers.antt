@@ -1,4 +1,3 @@
-use Rattle.std.specs.Str.{IsUtf8}
 use Rattle.std.proofs.lemmas.Str.{IsUtf8-from_ascii}
 use Rattle.qsr_lex.proofs.PrintedNames.{IsAscii-name}
 use Rattle.qsr_lex.proofs.names.name_text.Goals as goal
