@@ -1,6 +1,7 @@
 -- Names as lists of bytes, and the places at which they stand.
-use Rattle.std.proofs.Common.{◌≡◌, ◌≢◌, ℕ, zero, suc, ◌<◌, Bool, true, false, cond, List, [], ◌∷◌, length, map, get_or, slice_get, Some, None, refl, sym, ◌∙◌, ap, arith, String, Global, option_map}
+use Rattle.std.proofs.Common.{◌≡◌, ◌≢◌, ℕ, zero, suc, ◌<◌, Bool, true, false, cond, List, [], ◌∷◌, length, map, get_or, slice_get, Option, Some, None, refl, sym, ◌∙◌, ap, arith, String, Global, option_map}
 use Rattle.std.specs.String.{string_bytes}
+use Rattle.std.specs.Prelude.{MatchOption}
 use Rattle.std.specs.Str.{bytes_eq}
 use Rattle.std.proofs.lemmas.Option.{slice_get-map, slice_get_read, slice_get_within, same_Some}
 use Rattle.std.proofs.lemmas.Slice.Eq.{bytes_eq-Decides}
@@ -44,3 +45,9 @@ place_of-none (x ∷ xs) name h =
 pub place_of-found : (names : List (List ℕ)) (name : List ℕ) (r : ℕ) → AreDistinct names → slice_get names r ≡ Some name → place_of name names ≡ Some r
 place_of-found names name r d h =
     place_of-first names name r (λ i less same. d i r less (slice_get_within names r name h) (same ∙ sym h)) h
+
+-- what a search finds is the place
+pub place_of-find : (names : List (List ℕ)) (name : List ℕ) (n : ℕ) (found : Option ℕ) → AreDistinct names →
+    MatchOption found ((r : ℕ) → slice_get names r ≢ Some name) (λ r. (r < n) × (slice_get names r ≡ Some name)) → found ≡ place_of name names
+place_of-find names name n None d h = sym (place_of-none names name h)
+place_of-find names name n (Some r) d h = sym (place_of-found names name r d h.1)

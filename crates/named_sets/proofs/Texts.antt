@@ -27,7 +27,3 @@ none_written old f = sym (ap (λ x. old ++ x) (text_below-none f) ∙ append-nil
 -- as long as every text is empty nothing is written
 pub empty_written : (old : List ℕ) (n : ℕ) (f : ℕ → List ℕ) → ((k : ℕ) → k < n → f k ≡ []) → old ≡ old ++ text_below n f
 empty_written old n f h = sym (ap (λ x. old ++ x) (text_below-empty n f h) ∙ append-nil old)
-
--- pieces that were written at once, and then one more
-pub header_written : (old p d e names a b : List ℕ) → a ≡ old ++ (p ++ (d ++ e)) → b ≡ a ++ names → b ≡ old ++ p ++ d ++ e ++ names
-header_written old p d e names a b h k = k ∙ ap (λ x. x ++ names) h ∙ simp append_assoc

@@ -1,5 +1,4 @@
 pub mod Texts
-pub mod PlacesOfNames
 pub mod NamesLine
 pub mod FactLines
 pub mod PrintedLines

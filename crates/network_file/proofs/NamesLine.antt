@@ -15,9 +15,10 @@ use Rattle.qsr_lex.specs.TokenLines.{TokenLine, token_line, token_lines}
 use Rattle.qsr_lex.proofs.CleanLines.{readable_text-all}
 use Rattle.network_file.specs.declared.text_end.TextEnd.{TextEnd}
 use Rattle.network_file.specs.LineForms.{names_form, behind_names}
-use Rattle.network_file.specs.NetworkFile.{◌>>=◌, place_of, has_twice, names_once, names_here, names_line, end_at, read_lines, read_network, IsNetworkOf}
+use Rattle.calculus_table.specs.Names.{place_of}
+use Rattle.network_file.specs.NetworkFile.{◌>>=◌, has_twice, names_once, names_here, names_line, end_at, read_lines, read_network, IsNetworkOf}
 use Rattle.network_file.specs.declared.fault.FileFault.TheVariants.{Syntax, NameTwice}
-use Rattle.network_file.proofs.PlacesOfNames.{place_of-none}
+use Rattle.calculus_table.proofs.PlacesOfNames.{place_of-none}
 
 -- ---- names that differ, and names of which one stands twice
 

@@ -1,12 +1,10 @@
 -- The canonical text of a network is printed of lines of tokens.
-use Rattle.std.proofs.Common.{◌≡◌, ℕ, zero, suc, ◌^◌, ◌<◌, ◌≤◌, ◌==◌, Bool, true, false, cond, nat_lt, List, [], ◌∷◌, ◌++◌, length, map, take, refl, sym, ◌∙◌, ap, subst, arith, append_assoc, append-nil, slice_get, slice_index, unwrap_or, codes, decimal, ◌&&◌, ◌⊎◌, inl, inr}
-use Rattle.std.specs.Int.{bit_at}
+use Rattle.std.proofs.Common.{◌≡◌, ℕ, zero, suc, ◌^◌, ◌<◌, ◌≤◌, ◌==◌, Bool, true, false, cond, nat_lt, List, [], ◌∷◌, ◌++◌, length, map, refl, sym, ◌∙◌, ap, subst, arith, append_assoc, append-nil, slice_index, codes, decimal, ◌&&◌, ◌⊎◌, inl, inr}
 use Rattle.std.specs.List.{list_all, flat_map, AllByRecursion}
 use Rattle.std.proofs.lemmas.Bool.{and_parts, cases_lt, lt-ltb, ltb-true}
 use Rattle.std.proofs.lemmas.Bool.Decides.{nat_tests}
 use Rattle.std.proofs.lemmas.Grind.{flat_map-append}
 use Rattle.std.proofs.lemmas.List.{take_all}
-use Rattle.std.proofs.lemmas.List.Folds.{list_all-append}
 use Rattle.calculus_table.specs.Calculus.{Named}
 use Rattle.network_words.specs.Edge.{edge_at}
 use Rattle.network_words.specs.Network.{Network}
@@ -15,7 +13,9 @@ use Rattle.qsr_lex.specs.Names.{is_name}
 use Rattle.qsr_lex.specs.Printed.{is_token_text, are_tokens, spaced, printed_line, printed}
 use Rattle.qsr_lex.proofs.PrintedNames.{IsPrintedName-from_test}
 use Rattle.qsr_lex.proofs.PrintedNumbers.{IsPrintedNumber-below}
-use Rattle.network_file.specs.NetworkText.{text_below, word_text, member_text, set_text, edge_line, later_line, row_text, network_text}
+use Rattle.named_sets.specs.Written.{text_below, word_text, members, set_words}
+use Rattle.named_sets.proofs.WrittenSets.{with_space, text_below-names, spaced-cons, spaced-close, set_text-spaced, members-names}
+use Rattle.network_file.specs.NetworkText.{edge_line, later_line, row_text, network_text}
 
 -- ---- the pairs of nodes in edge order
 
@@ -27,57 +27,10 @@ unfoldable pub pairs_below : ℕ → ℕ → List (ℕ × ℕ)
 pairs_below n zero = []
 pairs_below n (suc i) = pairs_below n i ++ pairs_row i n
 
--- ---- a name and a space, for each name
-
-abbrev pub with_space : List ℕ → List ℕ
-with_space w = w ++ 32 ∷ []
-
--- the names of the members of a below k
-unfoldable pub members_below : List (List ℕ) → ℕ → ℕ → List (List ℕ)
-members_below names a zero = []
-members_below names a (suc r) = members_below names a r ++ cond (bit_at a r == 1) (unwrap_or (slice_get names r) [] ∷ []) []
-
-if_member : (b : Bool) (w : List ℕ) → cond b (with_space w) [] ≡ flat_map with_space (cond b (w ∷ []) [])
-if_member true w = sym (append-nil (with_space w))
-if_member false w = refl
-
-text_below-members : (c : Named) (a k : ℕ) → text_below k (member_text c a) ≡ flat_map with_space (members_below c.names a k)
-unfolding text_below members_below
-text_below-members c a zero = refl
-text_below-members c a (suc r) =
-    ap (λ x. x ++ member_text c a r) (text_below-members c a r)
-    ∙ ap (λ x. flat_map with_space (members_below c.names a r) ++ x) (if_member (bit_at a r == 1) (unwrap_or (slice_get c.names r) []))
-    ∙ sym (flat_map-append with_space (members_below c.names a r) (cond (bit_at a r == 1) (unwrap_or (slice_get c.names r) [] ∷ []) []))
-
-text_below-names : (names : List (List ℕ)) (k : ℕ) → k ≤ length names → text_below k (word_text names) ≡ flat_map with_space (take k names)
-unfolding text_below
-text_below-names names zero h = refl
-text_below-names names (suc k) h =
-    ap (λ x. x ++ word_text names k) (text_below-names names k (omega arith))
-    ∙ ap (λ x. flat_map with_space (take k names) ++ x) (sym (append-nil (word_text names k)))
-    ∙ sym (flat_map-append with_space (take k names) (unwrap_or (slice_get names k) [] ∷ []))
-    ∙ ap (flat_map with_space) (sym (take-name names k (omega arith)))
-  where
-    take-name : (names : List (List ℕ)) (k : ℕ) → k < length names → take (suc k) names ≡ take k names ++ unwrap_or (slice_get names k) [] ∷ []
-    take-name [] k h = absurd (omega arith)
-    take-name (x ∷ xs) zero h = refl
-    take-name (x ∷ xs) (suc k) h = ap (λ ys. x ∷ ys) (take-name xs k (omega arith))
-
-spaced-cons : (w : List ℕ) (ws : List (List ℕ)) → spaced (w ∷ (ws ++ (41 ∷ []) ∷ [])) ≡ w ++ 32 ∷ spaced (ws ++ (41 ∷ []) ∷ [])
-spaced-cons w [] = refl
-spaced-cons w (v ∷ ws) = refl
-
--- names in front of a closing bracket
-spaced-close : (ws : List (List ℕ)) → spaced (ws ++ (41 ∷ []) ∷ []) ≡ flat_map with_space ws ++ 41 ∷ []
-spaced-close [] = refl
-spaced-close (w ∷ ws) =
-    spaced-cons w ws ∙ ap (λ x. w ++ 32 ∷ x) (spaced-close ws)
-    ∙ sym (ap (λ x. x ++ 41 ∷ []) (append_assoc w (32 ∷ []) (flat_map with_space ws)) ∙ append_assoc w (32 ∷ flat_map with_space ws) (41 ∷ []))
-
 -- ---- the lines
 
 abbrev pub edge_words : Named → Network → ℕ × ℕ → List (List ℕ)
-edge_words c net p = decimal p.0 ∷ decimal p.1 ∷ (40 ∷ []) ∷ (members_below c.names (slice_index net.words (edge_at net.nodes p.0 p.1)) c.meaning.size ++ (41 ∷ []) ∷ [])
+edge_words c net p = decimal p.0 ∷ decimal p.1 ∷ set_words c (slice_index net.words (edge_at net.nodes p.0 p.1))
 
 abbrev pub names_words : List (List ℕ) → List (List ℕ)
 names_words names = codes "names" ∷ (40 ∷ []) ∷ (names ++ (41 ∷ []) ∷ [])
@@ -92,14 +45,8 @@ file_lines c net ps = (codes "nodes" ∷ decimal net.nodes ∷ []) ∷ (names_li
 edge_line-printed : (c : Named) (net : Network) (p : ℕ × ℕ) → edge_line c net p.0 p.1 ≡ printed_line (edge_words c net p)
 edge_line-printed c net p =
     let a = slice_index net.words (edge_at net.nodes p.0 p.1) in
-    let ws = members_below c.names a c.meaning.size in
-    let set : set_text c a ≡ 40 ∷ 32 ∷ spaced (ws ++ (41 ∷ []) ∷ []) =
-    ap (λ x. codes "( " ++ x ++ codes ")") (text_below-members c a c.meaning.size) ∙ ap (λ x. 40 ∷ 32 ∷ x) (sym (spaced-close ws)) in
-    let line : spaced (edge_words c net p) ≡ decimal p.0 ++ 32 ∷ (decimal p.1 ++ 32 ∷ (40 ∷ 32 ∷ spaced (ws ++ (41 ∷ []) ∷ []))) =
-    ap (λ x. decimal p.0 ++ 32 ∷ (decimal p.1 ++ 32 ∷ x)) (spaced-cons (40 ∷ []) ws) in
-    ap (λ x. decimal p.0 ++ codes " " ++ decimal p.1 ++ codes " " ++ x ++ codes "\n") set
-    ∙ shape (decimal p.0) (decimal p.1) (40 ∷ 32 ∷ spaced (ws ++ (41 ∷ []) ∷ []))
-    ∙ ap (λ x. x ++ 10 ∷ []) (sym line)
+    ap (λ x. decimal p.0 ++ codes " " ++ decimal p.1 ++ codes " " ++ x ++ codes "\n") (set_text-spaced c a)
+    ∙ shape (decimal p.0) (decimal p.1) (spaced (set_words c a))
   where
     shape : (i j x : List ℕ) → i ++ codes " " ++ j ++ codes " " ++ x ++ codes "\n" ≡ (i ++ 32 ∷ (j ++ 32 ∷ x)) ++ 10 ∷ []
     shape i j x = simp append_assoc
@@ -172,24 +119,6 @@ both a b p q = rw (p, q) refl
 pub small : (k : ℕ) → k ≤ MAX_NODES → k < 10 ^ 18
 small k h = omega arith
 
-all_cond : (b : Bool) (w : List ℕ) → is_name w ≡ true → list_all is_name (cond b (w ∷ []) []) ≡ true
-all_cond true w h = both (is_name w) true h refl
-all_cond false w h = refl
-
-name_at : (names : List (List ℕ)) (k : ℕ) → k < length names → list_all is_name names ≡ true → is_name (unwrap_or (slice_get names k) []) ≡ true
-name_at [] k b h = absurd (omega arith)
-name_at (x ∷ xs) zero b h = (and_parts (is_name x) (list_all is_name xs) h).0
-name_at (x ∷ xs) (suc k) b h = name_at xs k (omega arith) (and_parts (is_name x) (list_all is_name xs) h).1
-
-pub members_below-names : (names : List (List ℕ)) (a k : ℕ) → k ≤ length names → list_all is_name names ≡ true → list_all is_name (members_below names a k) ≡ true
-unfolding members_below
-members_below-names names a zero b h = refl
-members_below-names names a (suc r) b h =
-    list_all-append is_name (members_below names a r) (cond (bit_at a r == 1) (unwrap_or (slice_get names r) [] ∷ []) [])
-    ∙ both (list_all is_name (members_below names a r)) (list_all is_name (cond (bit_at a r == 1) (unwrap_or (slice_get names r) [] ∷ []) []))
-    (members_below-names names a r (omega arith) h)
-    (all_cond (bit_at a r == 1) (unwrap_or (slice_get names r) []) (name_at names r (omega arith) h))
-
 names_are_tokens : (ws : List (List ℕ)) → list_all is_name ws ≡ true → list_all is_token_text (ws ++ (41 ∷ []) ∷ []) ≡ true
 names_are_tokens [] h = refl
 names_are_tokens (w ∷ ws) h =
@@ -204,10 +133,10 @@ pub record IsPair (n : ℕ) (p : ℕ × ℕ) : Type 0 where
 edge_tokens : (c : Named) (net : Network) (p : ℕ × ℕ) → net.nodes ≤ MAX_NODES → length c.names ≡ c.meaning.size → list_all is_name c.names ≡ true → IsPair net.nodes p → are_tokens (edge_words c net p) ≡ true
 edge_tokens c net p few one_each names pair =
     let a = slice_index net.words (edge_at net.nodes p.0 p.1) in
-    let ws = members_below c.names a c.meaning.size ++ (41 ∷ []) ∷ [] in
+    let ws = members c a ++ (41 ∷ []) ∷ [] in
     both (is_token_text (decimal p.0)) (list_all is_token_text (decimal p.1 ∷ (40 ∷ []) ∷ ws)) (IsPrintedNumber-below p.0 (small p.0 (omega arith))).token
     (both (is_token_text (decimal p.1)) (list_all is_token_text ((40 ∷ []) ∷ ws)) (IsPrintedNumber-below p.1 (small p.1 (omega arith))).token
-    (names_are_tokens (members_below c.names a c.meaning.size) (members_below-names c.names a c.meaning.size (omega arith) names)))
+    (names_are_tokens (members c a) (members-names c.names a c.meaning.size names (omega arith))))
 
 edges_tokens : (c : Named) (net : Network) (ps : List (ℕ × ℕ)) → net.nodes ≤ MAX_NODES → length c.names ≡ c.meaning.size → list_all is_name c.names ≡ true → AllByRecursion (IsPair net.nodes) ps →
     list_all are_tokens (map (edge_words c net) ps ++ ((46 ∷ []) ∷ []) ∷ []) ≡ true

@@ -1,20 +1,14 @@
 -- The canonical text of a network is read as that network.
-use Rattle.std.proofs.Common.{◌≡◌, ℕ, zero, suc, ◌+◌, ◌^◌, ◌<◌, ◌≤◌, ◌==◌, ◌&&◌, ◌||◌, Bool, true, false, cond, nat_lt, List, [], ◌∷◌, ◌++◌, length, map, refl, sym, ◌∙◌, ap, subst, arith, add-one, ne_eqb, append_assoc, append-nil, slice_get, slice_index, Option, Some, None, Result, Ok, Err, option_and_then, is_some, unwrap_or, codes, decimal, bit_or, bytes_eq, inl, inr}
-use Rattle.std.specs.Prelude.{bit_or}
-use lib.Bits.{or_zero_r}
-use Rattle.std.specs.Int.{bit_at}
+use Rattle.std.proofs.Common.{◌≡◌, ℕ, ◌+◌, ◌<◌, ◌≤◌, ◌==◌, ◌&&◌, ◌||◌, Bool, true, false, cond, nat_lt, List, [], ◌∷◌, ◌++◌, length, map, refl, sym, ◌∙◌, ap, subst, arith, append_assoc, append-nil, slice_index, Option, Some, None, Result, Ok, Err, option_and_then, is_some, codes, decimal, bytes_eq, inl, inr}
 use Rattle.std.specs.Option.{ok_or}
 use Rattle.std.specs.List.{list_all, AllByRecursion}
-use Rattle.std.proofs.lemmas.Bool.{lt-ltb, eqb-true, eq-eqb, false_from_ne_true}
+use Rattle.std.proofs.lemmas.Bool.{lt-ltb, eq-eqb, false_from_ne_true}
 use Rattle.std.proofs.lemmas.Bool.Decides.{nat_tests}
 use Rattle.std.proofs.lemmas.Slice.Eq.{bytes_eq-Decides}
 use Rattle.std.proofs.lemmas.List.Elements.{All-from_recursion, recursion_from_All}
-use Rattle.calculus_table.specs.Rel.{Has, IsWithin}
-use Rattle.calculus_table.specs.Meaning.{Meaning}
-use Rattle.calculus_table.specs.Composition.{full_of, union_below, if_has}
+use Rattle.calculus_table.specs.Rel.{Has}
 use Rattle.calculus_table.specs.Calculus.{Named, AreDistinct}
-use Rattle.calculus_table.proofs.Sets.{IsWithin-antisym, Has-single}
-use Rattle.calculus_table.proofs.Compositions.{InUnion, union_below-member, Has-union_below, if_has-member, Has-if_has, single-member, full-member}
+use Rattle.calculus_table.proofs.Compositions.{full-member}
 use Rattle.network_words.specs.Edge.{edge_at}
 use Rattle.network_words.specs.Network.{Network}
 use Rattle.network_words.specs.Facts.{Allows, IsNetOf}
@@ -33,27 +27,20 @@ use Rattle.qsr_lex.proofs.CleanLines.{readable_text-all}
 use Rattle.qsr_lex.proofs.PrintedText.{IsReadAgain-from_tokens}
 use Rattle.qsr_lex.proofs.PrintedNames.{IsPrintedSet-from_tests}
 use Rattle.qsr_lex.proofs.PrintedNumbers.{IsPrintedNumber-below}
+use Rattle.named_sets.specs.Named.{set_of}
+use Rattle.named_sets.specs.Written.{members, set_words}
+use Rattle.named_sets.proofs.ReadSets.{set_of-members}
+use Rattle.named_sets.proofs.WrittenSets.{members-names}
 use Rattle.network_file.specs.LineForms.{nodes_form, names_form, behind_names, exactly, at_end, is_named, as_node, node_at, FactWords, fact_form, is_nothing, is_end_form}
 use Rattle.network_file.specs.NetworkText.{network_text}
-use Rattle.network_file.specs.NetworkFile.{◌>>=◌, Said, end_at, nodes_within, nodes_line, names_here, names_line, place_of, node_by, node_of, set_from, differing, fact_line, closed, fact_lines, read_lines, read_network, IsNetworkOf, IsFileOf}
+use Rattle.network_file.specs.NetworkFile.{◌>>=◌, Said, end_at, nodes_within, nodes_line, names_here, names_line, node_by, node_of, differing, fact_line, closed, fact_lines, read_lines, read_network, IsNetworkOf, IsFileOf}
 use Rattle.network_file.specs.ReadAgain.{IsPrintable}
 use Rattle.network_file.specs.declared.text_end.TextEnd.{TextEnd}
 use Rattle.network_file.specs.declared.text_end.TextEnd.TheVariants.{Whole}
 use Rattle.network_file.specs.declared.fault.FileFault.{FileFault}
 use Rattle.network_file.specs.declared.fault.FileFault.TheVariants.{Nodes, Syntax, NoNode, SelfEdge, Unknown}
-use Rattle.network_file.proofs.PlacesOfNames.{place_of-found}
 use Rattle.network_file.proofs.NamesLine.{has_twice-distinct, names_line-read}
-use Rattle.network_file.proofs.PrintedLines.{small, pairs_below, members_below, members_below-names, edge_words, names_words, names_lines, file_lines, network_text-printed, IsPair, file_tokens, pairs_below-pairs, Among, pairs_below-has}
-
--- ---- a union over the members of a set, one base relation after another
-
-union_below-has : (a n all : ℕ) (f : ℕ → ℕ) → all ≡ union_below n (λ r. if_has a r (f r)) → Has a n → bit_or all (f n) ≡ union_below (n + 1) (λ r. if_has a r (f r))
-unfolding union_below
-union_below-has a n all f e h = rw (add-one, e, eq-eqb (bit_at a n) 1 h) refl
-
-union_below-has_not : (a n all : ℕ) (f : ℕ → ℕ) → all ≡ union_below n (λ r. if_has a r (f r)) → ¬ Has a n → all ≡ union_below (n + 1) (λ r. if_has a r (f r))
-unfolding union_below
-union_below-has_not a n all f e h = rw (add-one, e, ne_eqb (bit_at a n) 1 h) (sym (or_zero_r _))
+use Rattle.network_file.proofs.PrintedLines.{small, pairs_below, edge_words, names_words, names_lines, file_lines, network_text-printed, IsPair, file_tokens, pairs_below-pairs, Among, pairs_below-has}
 
 -- ---- one network at most
 
@@ -77,53 +64,6 @@ file_is_of_one c bytes net other p q =
     same_network a b n f w m =
         ap (λ x. network_from x a.full a.words a.names) n ∙ ap (λ x. network_from b.nodes x a.words a.names) f
         ∙ ap (λ x. network_from b.nodes b.full x a.names) w ∙ ap (λ x. network_from b.nodes b.full b.words x) m
-
--- ---- the set of a line
-
-set_from-by : (bases : List (List ℕ)) (set : ℕ) (xs ys : List (List ℕ)) → ((s : ℕ) → set_from bases s (xs ++ ys) ≡ option_and_then (λ t. set_from bases t ys) (set_from bases s xs)) → (o : Option ℕ) →
-    option_and_then (λ r. set_from bases (bit_or set (2 ^ r)) (xs ++ ys)) o ≡ option_and_then (λ t. set_from bases t ys) (option_and_then (λ r. set_from bases (bit_or set (2 ^ r)) xs) o)
-set_from-by bases set xs ys h None = refl
-set_from-by bases set xs ys h (Some r) = h (bit_or set (2 ^ r))
-
-set_from-append : (bases : List (List ℕ)) (set : ℕ) (xs ys : List (List ℕ)) → set_from bases set (xs ++ ys) ≡ option_and_then (λ t. set_from bases t ys) (set_from bases set xs)
-set_from-append bases set [] ys = refl
-set_from-append bases set (x ∷ xs) ys = set_from-by bases set xs ys (λ s. set_from-append bases s xs ys) (place_of x bases)
-
--- the members of a below k, as a set
-abbrev low : ℕ → ℕ → ℕ
-low a k = union_below k (λ r. if_has a r (2 ^ r))
-
-low-step : (bases : List (List ℕ)) (a r : ℕ) (w : List ℕ) (b : Bool) → (bit_at a r == 1) ≡ b → place_of w bases ≡ Some r → set_from bases (low a r) (cond b (w ∷ []) []) ≡ Some (low a (r + 1))
-low-step bases a r w true is place = ap (option_and_then (λ q. Some (bit_or (low a r) (2 ^ q)))) place ∙ ap Some (union_below-has a r (low a r) (λ q. 2 ^ q) refl (eqb-true (bit_at a r) 1 is))
-low-step bases a r w false is place = ap Some (union_below-has_not a r (low a r) (λ q. 2 ^ q) refl (λ h. false_true (sym is ∙ eq-eqb (bit_at a r) 1 h)))
-  where
-    false_true : (let x : Bool = false in x) ≡ true → ⊥
-    false_true h = cc
-
-name_there : (names : List (List ℕ)) (k : ℕ) → k < length names → slice_get names k ≡ Some (unwrap_or (slice_get names k) [])
-name_there [] k h = absurd (omega arith)
-name_there (x ∷ xs) zero h = refl
-name_there (x ∷ xs) (suc k) h = name_there xs k (omega arith)
-
-set_from-members : (names : List (List ℕ)) (a k : ℕ) → AreDistinct names → k ≤ length names → set_from names 0 (members_below names a k) ≡ Some (low a k)
-unfolding members_below union_below
-set_from-members names a zero d h = refl
-set_from-members names a (suc r) d h =
-    let w = unwrap_or (slice_get names r) [] in
-    set_from-append names 0 (members_below names a r) (cond (bit_at a r == 1) (w ∷ []) [])
-    ∙ ap (option_and_then (λ t. set_from names t (cond (bit_at a r == 1) (w ∷ []) []))) (set_from-members names a r d (omega arith))
-    ∙ low-step names a r w (bit_at a r == 1) refl (place_of-found names w r d (name_there names r (omega arith)))
-    ∙ ap (λ k. Some (low a k)) (let e : r + 1 ≡ suc r = omega arith in e)
-
-low-all : (m : Meaning) (a : ℕ) → IsWithin a (full_of m) → low a m.size ≡ a
-low-all m a w = IsWithin-antisym (low a m.size) a
-    (record {
-      each = λ t h.
-          let u : InUnion m.size (λ r. if_has a r (2 ^ r)) t = union_below-member m.size (λ r. if_has a r (2 ^ r)) t h in
-          let k = if_has-member a u.at (2 ^ u.at) t u.member in
-          subst (Has a) (sym (single-member u.at t k.1)) k.0;
-    })
-    (record { each = λ t h. Has-union_below m.size (λ r. if_has a r (2 ^ r)) t t (full-member m t (w.each t h)) (Has-if_has a t (2 ^ t) t h (Has-single t)) })
 
 -- ---- the first line
 
@@ -173,7 +113,7 @@ names_line-printed c net [] [] few pairs all d l = refl
 names_line-printed c net (p ∷ ps) [] few pairs all d l =
     let first : p.0 < MAX_NODES = omega (arith, pairs.0.order, pairs.0.below) in
     let lines = printed_token_lines 2 (map (edge_words c net) (p ∷ ps) ++ end_line) in
-    let rest = map lexeme_from (decimal p.1 ∷ (40 ∷ []) ∷ (members_below c.names (slice_index net.words (edge_at net.nodes p.0 p.1)) c.meaning.size ++ (41 ∷ []) ∷ [])) in
+    let rest = map lexeme_from (decimal p.1 ∷ set_words c (slice_index net.words (edge_at net.nodes p.0 p.1))) in
     ap (names_here net.nodes (token_line 2 (lexeme_from (decimal p.0) ∷ rest)) (printed_token_lines 3 (map (edge_words c net) ps ++ end_line))) (no_names_word p.0 rest first)
 names_line-printed c net ps (x ∷ xs) few pairs all d l =
     names_line-read net.nodes 2 _ (printed_token_lines 3 (map (edge_words c net) ps ++ end_line)) (map lexeme_from (names_words (x ∷ xs)))
@@ -210,7 +150,7 @@ node_of-printed n line i names few below =
     ap (node_by n names line (decimal i)) (IsPrintedNumber-below i (small i (omega arith))).number ∙ ap (λ b. cond b (Ok i) (Err (NoNode line))) (lt-ltb i n below)
 
 abbrev set_step : Named → ℕ → List (List ℕ) → ℕ → ℕ → Result Fact FileFault
-set_step c line ms i j = ok_or (set_from c.names 0 ms) (Unknown line) >>= λ set. Ok (fact_from i j set)
+set_step c line ms i j = ok_or (set_of c.names ms) (Unknown line) >>= λ set. Ok (fact_from i j set)
 
 abbrev differ_step : Named → ℕ → List (List ℕ) → ℕ → ℕ → Result Fact FileFault
 differ_step c line ms i k = differing line i k >>= λ j. set_step c line ms i j
@@ -227,24 +167,23 @@ other_test i j h = grind (arith, nat_tests)
 fact_line-printed : (c : Named) (net : Network) (line : ℕ) (p : ℕ × ℕ) → IsPrintable c net → IsPair net.nodes p → fact_line c net.nodes net.names (token_line line (map lexeme_from (edge_words c net p))) ≡ Ok (fact_at net p)
 fact_line-printed c net line p h pair =
     let a = slice_index net.words (edge_at net.nodes p.0 p.1) in
-    let ms = members_below c.names a c.meaning.size in
+    let ms = members c a in
     let below : p.0 < net.nodes = omega (arith, pair.order, pair.below) in
     let few : p.0 < MAX_NODES = omega (arith, h.shape.bounded, below) in
     let more : p.1 < MAX_NODES = omega (arith, h.shape.bounded, pair.below) in
     let one_each : length c.names ≡ c.meaning.size = h.calculus.one_each in
-    let names = members_below-names c.names a c.meaning.size (omega (arith, one_each)) h.bases in
+    let names = members-names c.names a c.meaning.size h.bases (omega (arith, one_each)) in
     ap (λ o. ok_or o (Syntax line) >>= first_step c net.nodes net.names line) (fact_form-printed (is_named net.names) p.0 p.1 ms few more names)
     ∙ ap (λ s. s >>= second_step c net.nodes net.names line (decimal p.1) ms) (node_of-printed net.nodes line p.0 net.names few below)
     ∙ ap (λ s. s >>= differ_step c line ms p.0) (node_of-printed net.nodes line p.1 net.names more pair.below)
     ∙ ap (λ b. cond b (Err (SelfEdge line)) (Ok p.1) >>= set_step c line ms p.0) (other_test p.0 p.1 pair.order)
-    ∙ ap (λ o. ok_or o (Unknown line) >>= λ set. Ok (fact_from p.0 p.1 set)) (set_from-members c.names a c.meaning.size h.calculus.distinct (omega (arith, one_each)))
-    ∙ ap (λ set. Ok (fact_from p.0 p.1 set)) (low-all c.meaning a (h.words.within (edge_at net.nodes p.0 p.1)))
+    ∙ ap (λ o. ok_or o (Unknown line) >>= λ set. Ok (fact_from p.0 p.1 set)) (set_of-members c.names c.meaning a h.calculus.distinct one_each (h.words.within (edge_at net.nodes p.0 p.1)))
 
 -- ---- the lines of facts
 
 fact_no_end : (c : Named) (net : Network) (p : ℕ × ℕ) → p.0 < MAX_NODES → is_end_form (map lexeme_from (edge_words c net p)) ≡ false
 fact_no_end c net p few =
-    let rest = map lexeme_from (decimal p.1 ∷ (40 ∷ []) ∷ (members_below c.names (slice_index net.words (edge_at net.nodes p.0 p.1)) c.meaning.size ++ (41 ∷ []) ∷ [])) in
+    let rest = map lexeme_from (decimal p.1 ∷ set_words c (slice_index net.words (edge_at net.nodes p.0 p.1))) in
     ap (λ k. is_nothing (cond (is_same_kind k Stop) (Some rest) None)) (IsPrintedNumber-below p.0 (small p.0 (omega arith))).word
 
 fact_lines-printed : (c : Named) (net : Network) (k line : ℕ) (ps : List (ℕ × ℕ)) (facts : List Fact) → IsPrintable c net → AllByRecursion (IsPair net.nodes) ps →

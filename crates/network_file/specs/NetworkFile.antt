@@ -1,9 +1,11 @@
 -- Network files: what each says, and the one fault with which any other text is refused. The lines are read in order, and the
 -- first faulty one decides; of a line the form is tested first.
-use Rattle.std.specs.Prelude.{◌≡◌, ◌≢◌, ℕ, ◌^◌, List, [], ◌∷◌, ◌++◌, Bool, true, false, ◌||◌, ◌==◌, nat_lt, Option, Some, None, option_map, option_and_then, is_some, Result, Ok, Err, bytes_eq, suc, bit_or, if◌then◌else◌}
+use Rattle.std.specs.Prelude.{◌≡◌, ◌≢◌, ℕ, List, [], ◌∷◌, ◌++◌, Bool, true, false, ◌||◌, ◌==◌, nat_lt, Option, Some, None, is_some, Result, Ok, Err, if◌then◌else◌}
 use Rattle.std.specs.Option.{ok_or}
+use Rattle.calculus_table.specs.Names.{place_of}
 use Rattle.calculus_table.specs.Calculus.{Named}
 use Rattle.calculus_table.specs.Composition.{full_of}
+use Rattle.named_sets.specs.Named.{set_of}
 use Rattle.network_words.specs.Edge.{IsProperPair}
 use Rattle.network_words.specs.Network.{Network, met_at}
 use Rattle.network_words.specs.Facts.{IsNetOf}
@@ -61,11 +63,6 @@ nodes_line end (l ∷ ls) = do
 
 -- ---- the line of names
 
--- the place of a name among others
-abbrev pub place_of : List ℕ → List (List ℕ) → Option ℕ
-place_of name [] = None
-place_of name (x ∷ xs) = if bytes_eq x name then Some 0 else option_map suc (place_of name xs)
-
 -- a name stands twice
 abbrev pub has_twice : List (List ℕ) → Bool
 has_twice [] = false
@@ -103,11 +100,6 @@ node_by n names line word None = ok_or (place_of word names) (Unknown line)
 abbrev pub node_of : ℕ → List (List ℕ) → ℕ → List ℕ → Result ℕ FileFault
 node_of n names line word = node_by n names line word (number_of word)
 
--- the set of the named base relations and the members of `set`
-abbrev pub set_from : List (List ℕ) → ℕ → List (List ℕ) → Option ℕ
-set_from bases set [] = Some set
-set_from bases set (x ∷ xs) = option_and_then (λ r. set_from bases (bit_or set (2 ^ r)) xs) (place_of x bases)
-
 -- two nodes that differ
 abbrev pub differing : ℕ → ℕ → ℕ → Result ℕ FileFault
 differing line i j = if i == j then Err (SelfEdge line) else Ok j
@@ -119,7 +111,7 @@ fact_line c n names l = do
   i ← node_of n names l.number words.first
   k ← node_of n names l.number words.second
   j ← differing l.number i k
-  set ← ok_or (set_from c.names 0 words.set) (Unknown l.number)
+  set ← ok_or (set_of c.names words.set) (Unknown l.number)
   Ok (record { i = i; j = j; rel = set })
 
 -- behind the end line there are only lines without tokens

@@ -7,12 +7,13 @@ ghost use Rattle.network_words.specs.Facts.{IsNetOf};
 ghost use Rattle.network_words.specs.declared.fact.Fact.{Fact};
 ghost use Rattle.qsr_lex.specs.TokenLines.{token_line};
 ghost use Rattle.network_file.specs.LineForms.{is_named, is_end_form};
-ghost use Rattle.network_file.specs.NetworkFile.{FailsWith, node_of, set_from, fact_line, closed, fact_lines, ReadsLine, ReadsFacts, MeetsEnd};
+ghost use Rattle.network_file.specs.NetworkFile.{FailsWith, node_of, fact_line, closed, fact_lines, ReadsLine, ReadsFacts, MeetsEnd};
 
 use crate::fault::{FileFault, form_fault};
 use crate::forms::fact_form;
 use crate::text_end::{TextEnd, end_fault};
-use calculus_table::{Calculus, Compose, MAX_BASES, Rel};
+use calculus_table::Calculus;
+use named_sets::set_of;
 use network_words::{Fact, Net};
 use qsr_lex::{LineReader, TextLine, TokenKind, number};
 use std::alloc::Global;
@@ -34,22 +35,6 @@ fn node_of(net: &Net, line: u32, word: &[u8]) -> Result<u32, FileFault>
         Some(_) => Err(FileFault::NoNode { line }),
         None => net.find(word).ok_or(FileFault::Unknown { line }),
     }
-}
-
-/// The set of the base relations of these names, unless one is the name of none.
-fn set_of(c: &Calculus, names: &[&[u8]]) -> Option<Rel>
-    ensures value { result ≡ set_from c.now.names 0 (map (λ name. name.now) names.now) }
-    ensures within { IfSome result (λ set. IsWithin set (full_of c.now.meaning)) }
-{
-    prove!(c.size() <= MAX_BASES);
-    let mut set = Rel::EMPTY;
-    for name in names {
-        let Some(r) = c.find(name) else {
-            return None;
-        };
-        set = set.union(Rel::single(r));
-    }
-    Some(set)
 }
 
 /// The fact of a line.
@@ -74,7 +59,7 @@ fn read_fact(
     if i == j {
         return Err(FileFault::SelfEdge { line: number });
     }
-    let Some(rel) = set_of(c, &words.set) else {
+    let Some(rel) = set_of(c.names(), &words.set) else {
         return Err(FileFault::Unknown { line: number });
     };
     Ok(Fact { i, j, rel })

@@ -1,33 +1,12 @@
 ghost use Rattle.std.specs.Prelude.{◌≡◌, ◌≢◌, ◌<◌, [], ◌++◌, codes, OnOk, IfOk};
 ghost use Rattle.std.specs.String.{string_bytes};
-ghost use Rattle.network_file.specs.NetworkText.{word_text, member_text, set_text, edge_line, row_text, names_line, network_text};
+ghost use Rattle.named_sets.specs.Written.{word_text};
+ghost use Rattle.network_file.specs.NetworkText.{edge_line, row_text, names_line, network_text};
 
-use calculus_table::{Calculus, Compose, Memory, Rel};
+use calculus_table::{Calculus, Memory};
+use named_sets::push_set;
 use network_words::Net;
 use std::alloc::{AllocError, Global};
-
-/// Appends the name of `r`, where it is a member of the set.
-fn push_member(text: &mut String, c: &Calculus, set: Rel, r: u32) -> Result<(), AllocError>
-    requires { r < c.now.meaning.size }
-    ensures { OnOk result (string_bytes text.new ≡ string_bytes text.old ++ member_text c.now set r) }
-{
-    if set.has(r) {
-        write!(text, "{} ", c.name(r))?;
-    }
-    Ok(())
-}
-
-/// Appends a set in brackets.
-fn push_set(text: &mut String, c: &Calculus, set: Rel) -> Result<(), AllocError>
-    ensures { OnOk result (string_bytes text.new ≡ string_bytes text.old ++ set_text c.now set) }
-{
-    text.push_str("( ")?;
-    for r in 0..c.size() {
-        push_member(text, c, set, r)?;
-    }
-    text.push_str(")")?;
-    Ok(())
-}
 
 /// Appends the line of an edge.
 fn push_edge(text: &mut String, net: &Net, c: &Calculus, i: u32, j: u32) -> Result<(), AllocError>

@@ -2,7 +2,7 @@ use Rattle.std.proofs.Common.{ap, ◌∙◌}
 use Rattle.std.specs.Option.{ok_or}
 use Rattle.network_file.specs.NetworkFile.{node_by}
 use Rattle.network_file.specs.declared.fault.FileFault.TheVariants.{Unknown}
-use Rattle.network_file.proofs.PlacesOfNames.{place_of-find}
+use Rattle.calculus_table.proofs.PlacesOfNames.{place_of-find}
 use Rattle.network_file.proofs.facts.node_of.Goals as goal
 
 pub returns-in-None-clause-value : goal.returns-in-None-clause-value
