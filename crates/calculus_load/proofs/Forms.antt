@@ -5,7 +5,7 @@ use Rattle.qsr_lex.specs.Words.{name_at, behind_kind, is_same_kind}
 use Rattle.qsr_lex.specs.declared.tokens.TokenKind.{TokenKind}
 use Rattle.qsr_lex.specs.declared.tokens.TokenKind.TheVariants.{Word, Open, Close, Comma, Colon, Colons, Stop}
 use Rattle.calculus_load.specs.Statements.{◌>>=◌, behind_colons, converse_line, behind_colon, entry_line, or_else, statement_line}
-use Rattle.calculus_load.specs.Names.{base_of}
+use Rattle.calculus_table.specs.Names.{place_of}
 use Rattle.calculus_load.specs.declared.statement.Statement.{Statement}
 
 abbrev FoundName : Type 0
@@ -42,21 +42,21 @@ or_nothing None = refl
 or_nothing (Some s) = refl
 
 pub statement_line-colons : (names : List (List ℕ)) (words rest behind : List Lexeme) (text : List ℕ) → name_at words ≡ Some (text, rest) → behind_kind Colons rest ≡ Some behind
-    → behind_colons names (base_of names text) behind ≡ statement_line names words
+    → behind_colons names (place_of text names) behind ≡ statement_line names words
 statement_line-colons names words rest behind text h k =
-    let converse : converse_line names words ≡ behind_colons names (base_of names text) behind =
-    ap (λ o. o >>= λ (first : FoundName). behind_kind Colons first.1 >>= behind_colons names (base_of names first.0)) h ∙ ap (λ o. o >>= behind_colons names (base_of names text)) k in
+    let converse : converse_line names words ≡ behind_colons names (place_of text names) behind =
+    ap (λ o. o >>= λ (first : FoundName). behind_kind Colons first.1 >>= behind_colons names (place_of first.0 names)) h ∙ ap (λ o. o >>= behind_colons names (place_of text names)) k in
     let entry : entry_line names words ≡ None =
-    ap (λ o. o >>= λ (first : FoundName). behind_kind Colon first.1 >>= behind_colon names (base_of names first.0)) h
-    ∙ ap (λ o. o >>= behind_colon names (base_of names text)) (no_colon rest behind k) in
-    sym (ap (λ o. or_else o (entry_line names words)) converse ∙ ap (or_else (behind_colons names (base_of names text) behind)) entry ∙ or_nothing (behind_colons names (base_of names text) behind))
+    ap (λ o. o >>= λ (first : FoundName). behind_kind Colon first.1 >>= behind_colon names (place_of first.0 names)) h
+    ∙ ap (λ o. o >>= behind_colon names (place_of text names)) (no_colon rest behind k) in
+    sym (ap (λ o. or_else o (entry_line names words)) converse ∙ ap (or_else (behind_colons names (place_of text names) behind)) entry ∙ or_nothing (behind_colons names (place_of text names) behind))
 
 pub statement_line-colon : (names : List (List ℕ)) (words rest behind : List Lexeme) (text : List ℕ) → name_at words ≡ Some (text, rest) → behind_kind Colon rest ≡ Some behind
-    → behind_colon names (base_of names text) behind ≡ statement_line names words
+    → behind_colon names (place_of text names) behind ≡ statement_line names words
 statement_line-colon names words rest behind text h k =
     let converse : converse_line names words ≡ None =
-    ap (λ o. o >>= λ (first : FoundName). behind_kind Colons first.1 >>= behind_colons names (base_of names first.0)) h
-    ∙ ap (λ o. o >>= behind_colons names (base_of names text)) (no_colons rest behind k) in
-    let entry : entry_line names words ≡ behind_colon names (base_of names text) behind =
-    ap (λ o. o >>= λ (first : FoundName). behind_kind Colon first.1 >>= behind_colon names (base_of names first.0)) h ∙ ap (λ o. o >>= behind_colon names (base_of names text)) k in
+    ap (λ o. o >>= λ (first : FoundName). behind_kind Colons first.1 >>= behind_colons names (place_of first.0 names)) h
+    ∙ ap (λ o. o >>= behind_colons names (place_of text names)) (no_colons rest behind k) in
+    let entry : entry_line names words ≡ behind_colon names (place_of text names) behind =
+    ap (λ o. o >>= λ (first : FoundName). behind_kind Colon first.1 >>= behind_colon names (place_of first.0 names)) h ∙ ap (λ o. o >>= behind_colon names (place_of text names)) k in
     sym (ap (λ o. or_else o (entry_line names words)) converse ∙ entry)

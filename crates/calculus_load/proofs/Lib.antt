@@ -1,5 +1,4 @@
 pub mod Texts
-pub mod Singles
 pub mod NamesRead
 pub mod Shapes
 pub mod Faults

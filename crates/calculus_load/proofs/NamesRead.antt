@@ -1,12 +1,8 @@
 -- Names that are read one after another.
-use Rattle.std.proofs.Common.{◌≡◌, ℕ, ◌+◌, ◌<◌, ◌-◌, ◌^◌, bit_or, Bool, true, false, cond, ◌||◌, List, [], ◌∷◌, ◌++◌, length, map, take, drop, get_or, Option, Some, None, bytes_eq, refl, sym, ap, ◌∙◌, arith}
+use Rattle.std.proofs.Common.{◌≡◌, ℕ, ◌+◌, ◌<◌, Bool, true, false, cond, ◌||◌, List, [], ◌∷◌, ◌++◌, length, map, take, drop, get_or, Some, bytes_eq, refl, sym, ap, ◌∙◌, arith}
 use Rattle.std.specs.List.{list_any}
 use Rattle.std.proofs.lemmas.List.{drop_more, length-map, length-take, map_push, take_more}
-use Rattle.calculus_table.specs.Rel.{IsWithin}
-use Rattle.calculus_table.specs.Meaning.{Meaning}
-use Rattle.calculus_table.proofs.Sets.{IsWithin-union}
-use Rattle.calculus_load.proofs.Singles.{single-within}
-use Rattle.calculus_load.specs.Names.{repeat_behind, with_bases, with_base, base_of}
+use Rattle.calculus_load.specs.Names.{repeat_behind}
 
 any-map : {A : Type 0} (v : A → List ℕ) (test : List ℕ → Bool) (xs : List A) → list_any test (map v xs) ≡ list_any (λ x. test (v x)) xs
 any-map v test [] = refl
@@ -38,20 +34,3 @@ pub repeat_behind-miss : {A : Type 0} (v : A → List ℕ) (xs : List A) (k : �
 repeat_behind-miss v xs k d below found =
     repeat_behind-next v xs k d false below found
     ∙ ap (λ ys. repeat_behind ys (map v (drop (k + 1) xs))) (map-take_more v xs k d below)
-
--- the set so far and the names behind
-pub with_bases-none : (names texts : List (List ℕ)) → with_bases names None texts ≡ None
-with_bases-none names [] = refl
-with_bases-none names (t ∷ ts) = with_bases-none names ts
-
-pub with_bases-next : {A : Type 0} (v : A → List ℕ) (names : List (List ℕ)) (set : ℕ) (base : Option ℕ) (xs : List A) (k : ℕ) (d : A) → k < length xs
-    → base ≡ base_of names (v (get_or xs k d))
-    → with_bases names (Some set) (map v (drop k xs)) ≡ with_bases names (with_base (Some set) base) (map v (drop (k + 1) xs))
-with_bases-next v names set base xs k d below is =
-    ap (λ ys. with_bases names (Some set) (map v ys)) (drop_more xs k d below)
-    ∙ ap (λ b. with_bases names (with_base (Some set) b) (map v (drop (k + 1) xs))) (sym is)
-
-pub set-within : (n set r : ℕ) → IsWithin set (2 ^ n - 1) → r < n → IsWithin (bit_or set (2 ^ r)) (2 ^ n - 1)
-set-within n set r h below =
-    let m : Meaning = record { size = n; identity = 0; converses = []; table = [] } in
-    IsWithin-union set (2 ^ r) (2 ^ n - 1) h (single-within m r below)

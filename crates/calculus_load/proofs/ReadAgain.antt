@@ -1,7 +1,6 @@
 -- The canonical text of a calculus is read as that calculus.
-use Rattle.std.proofs.Common.{◌≡◌, ℕ, zero, suc, ◌+◌, ◌*◌, ◌<◌, ◌≤◌, ◌==◌, Bool, true, false, cond, ◌&&◌, List, [], ◌∷◌, ◌++◌, codes, length, map, set, replicate, get_or, Option, Some, None, is_some, slice_set, Result, Ok, Err, refl, sym, ap, ◌∙◌, subst, arith, append-nil}
+use Rattle.std.proofs.Common.{◌≡◌, ℕ, zero, suc, ◌+◌, ◌*◌, ◌<◌, ◌≤◌, Bool, true, false, cond, ◌&&◌, List, [], ◌∷◌, ◌++◌, codes, length, map, set, replicate, get_or, Option, Some, None, is_some, slice_set, Result, Ok, Err, refl, sym, ap, ◌∙◌, subst, arith, append-nil}
 use Rattle.std.specs.List.{list_all}
-use Rattle.std.specs.Int.{bit_at}
 use Rattle.std.proofs.lemmas.Nat.{mul-add-lt}
 use Rattle.qsr_lex.specs.Lexemes.{Lexeme}
 use Rattle.qsr_lex.specs.Names.{is_name}
@@ -17,7 +16,12 @@ use Rattle.calculus_table.specs.Meaning.{converse_at, entry_at}
 use Rattle.calculus_table.specs.Calculus.{Named}
 use Rattle.calculus_load.specs.Given.{Given, value_of, first_missing, first_missing_from, complete}
 use Rattle.calculus_load.specs.LinesToRead.{bad_lines, lines_to_read, end_place}
-use Rattle.calculus_load.specs.Names.{base_of, set_of, allowed_names}
+use Rattle.calculus_table.specs.Names.{place_of}
+use Rattle.named_sets.specs.Named.{set_of}
+use Rattle.named_sets.specs.Written.{members}
+use Rattle.named_sets.proofs.ReadSets.{set_of-members}
+use Rattle.named_sets.proofs.WrittenSets.{members-names, closed-tokens}
+use Rattle.calculus_load.specs.Names.{allowed_names}
 use Rattle.calculus_load.specs.Statements.{◌>>=◌, at_end, some_names, names_line, converse_line, behind_colons, entry_line, behind_colon, or_else, statement_line, ends_there, is_end_line}
 use Rattle.calculus_load.specs.TableFile.{◌then◌, formed, known, said, stated, nothing_behind, statements, nothing_given, named, identified, from_identity, from_names, table_of}
 use Rattle.calculus_load.specs.TableText.{table_text}
@@ -26,8 +30,8 @@ use Rattle.calculus_load.specs.declared.statement.Statement.TheVariants.{Convers
 use Rattle.calculus_load.specs.declared.fault.LoadFault.{LoadFault}
 use Rattle.calculus_load.specs.declared.fault.LoadFault.TheVariants.{Twice}
 use Rattle.calculus_load.proofs.Faults.{complete-given}
-use Rattle.calculus_load.proofs.PrintedTable.{listed, members, names_words, identity_words, converse_words, entry_words, row_lines, end_lines, table_lines, table_text-printed}
-use Rattle.calculus_load.proofs.NamesAgain.{HasNames, size-is, name_at-is_name, listed-names, base_of-name, allowed_names-again, set_of-members}
+use Rattle.calculus_load.proofs.PrintedTable.{listed, names_words, identity_words, converse_words, entry_words, row_lines, end_lines, table_lines, table_text-printed}
+use Rattle.calculus_load.proofs.NamesAgain.{HasNames, size-is, name_at-is_name, listed-names, place_of-name, allowed_names-again}
 
 -- ---- each text is one token
 step : (a b d : Bool) → a && b ≡ true → (b ≡ true → d ≡ true) → a && d ≡ true
@@ -43,16 +47,6 @@ unfolding listed
 all-listed test zero f h = refl
 all-listed test (suc n) f h = all-append test (listed n f) (f n ∷ []) (all-listed test n f (λ k b. h k (omega arith))) (ap (λ b. b && true) (h n (omega arith)))
 
-member-test : (test : List ℕ → Bool) (b : Bool) (w : List ℕ) → test w ≡ true → list_all test (cond b (w ∷ []) []) ≡ true
-member-test test true w h = ap (λ b. b && true) h
-member-test test false w h = refl
-
-all-members : (test : List ℕ → Bool) (n : ℕ) (c : Named) (a : ℕ) → ((k : ℕ) → k < n → test (texts.name_at c k) ≡ true) → list_all test (members n c a) ≡ true
-unfolding members
-all-members test zero c a h = refl
-all-members test (suc n) c a h =
-    all-append test (members n c a) (cond (bit_at a n == 1) (texts.name_at c n ∷ []) []) (all-members test n c a (λ k b. h k (omega arith))) (member-test test (bit_at a n == 1) (texts.name_at c n) (h n (omega arith)))
-
 name-token : (c : Named) (r : ℕ) → HasNames c → r < c.meaning.size → is_token_text (texts.name_at c r) ≡ true
 name-token c r h below = (IsPrintedName-from_test (texts.name_at c r) (name_at-is_name c r h below)).token
 
@@ -66,10 +60,10 @@ converse-tokens c r h below =
 
 entry-tokens : (c : Named) (r s : ℕ) → HasNames c → r < c.meaning.size → s < c.meaning.size → are_tokens (entry_words c r s) ≡ true
 entry-tokens c r s h b1 b2 =
-    let ms = members c.meaning.size c (entry_at c.meaning r s) in
+    let ms = members c (entry_at c.meaning r s) in
     both (is_token_text (texts.name_at c r)) (is_token_text (texts.name_at c s) && list_all is_token_text (ms ++ (codes ")" ∷ []))) (name-token c r h b1)
     (both (is_token_text (texts.name_at c s)) (list_all is_token_text (ms ++ (codes ")" ∷ []))) (name-token c s h b2)
-    (all-append is_token_text ms (codes ")" ∷ []) (all-members is_token_text c.meaning.size c (entry_at c.meaning r s) (λ k b. name-token c k h b)) refl))
+    (closed-tokens ms (members-names c.names (entry_at c.meaning r s) c.meaning.size h.names (omega (arith, size-is c h)))))
 
 row-tokens : (c : Named) (r : ℕ) → HasNames c → r ≤ c.meaning.size → list_all are_tokens (row_lines c r) ≡ true
 unfolding row_lines
@@ -179,33 +173,33 @@ converse-form c r s h b1 b2 =
     let y = lex (texts.name_at c s) in
     let rest = lex (codes "::") ∷ y ∷ [] in
     let line : converse_line c.names (x ∷ rest) ≡ Some (Converse (Some r) (Some s)) =
-    ap (λ o. o >>= λ first. behind_kind Colons first.1 >>= behind_colons c.names (base_of c.names first.0)) (name-read x rest (word-of c r h b1))
-    ∙ ap (λ o. o >>= λ second. at_end (Converse (base_of c.names (texts.name_at c r)) (base_of c.names second.0)) second.1) (name-read y [] (word-of c s h b2))
-    ∙ ap (λ o. Some (Converse o (base_of c.names (texts.name_at c s)))) (base_of-name c r h b1)
-    ∙ ap (λ o. Some (Converse (Some r) o)) (base_of-name c s h b2) in
+    ap (λ o. o >>= λ first. behind_kind Colons first.1 >>= behind_colons c.names (place_of first.0 c.names)) (name-read x rest (word-of c r h b1))
+    ∙ ap (λ o. o >>= λ second. at_end (Converse (place_of (texts.name_at c r) c.names) (place_of second.0 c.names)) second.1) (name-read y [] (word-of c s h b2))
+    ∙ ap (λ o. Some (Converse o (place_of (texts.name_at c s) c.names))) (place_of-name c r h b1)
+    ∙ ap (λ o. Some (Converse (Some r) o)) (place_of-name c s h b2) in
     ap (λ o. or_else o (entry_line c.names (x ∷ rest))) line
 
 entry-form : (c : Named) (r s : ℕ) → HasNames c → r < c.meaning.size → s < c.meaning.size
     → statement_line c.names (map lexeme_from (entry_words c r s)) ≡ Some (Entry (Some r) (Some s) (Some (entry_at c.meaning r s)))
 entry-form c r s h b1 b2 =
     let a = entry_at c.meaning r s in
-    let ms = members c.meaning.size c a in
+    let ms = members c a in
     let x = lex (texts.name_at c r) in
     let y = lex (texts.name_at c s) in
     let inner = map lexeme_from (codes "(" ∷ (ms ++ (codes ")" ∷ []))) in
     let more = lex (codes "::") ∷ inner in
     let rest = lex (codes ":") ∷ y ∷ more in
-    let is_names : list_all is_name ms ≡ true = all-members is_name c.meaning.size c a (λ k b. name_at-is_name c k h b) in
+    let is_names : list_all is_name ms ≡ true = members-names c.names a c.meaning.size h.names (omega (arith, size-is c h)) in
     let no : converse_line c.names (x ∷ rest) ≡ None =
-    ap (λ o. o >>= λ first. behind_kind Colons first.1 >>= behind_colons c.names (base_of c.names first.0)) (name-read x rest (word-of c r h b1)) in
+    ap (λ o. o >>= λ first. behind_kind Colons first.1 >>= behind_colons c.names (place_of first.0 c.names)) (name-read x rest (word-of c r h b1)) in
     let line : entry_line c.names (x ∷ rest) ≡ Some (Entry (Some r) (Some s) (Some a)) =
-    ap (λ o. o >>= λ first. behind_kind Colon first.1 >>= behind_colon c.names (base_of c.names first.0)) (name-read x rest (word-of c r h b1))
+    ap (λ o. o >>= λ first. behind_kind Colon first.1 >>= behind_colon c.names (place_of first.0 c.names)) (name-read x rest (word-of c r h b1))
     ∙ ap (λ o. o >>= λ second. behind_kind Colons second.1 >>= λ rest. names_at rest >>= λ found.
-    at_end (Entry (base_of c.names (texts.name_at c r)) (base_of c.names second.0) (set_of c.names found.0)) found.1) (name-read y more (word-of c s h b2))
-    ∙ ap (λ o. o >>= λ found. at_end (Entry (base_of c.names (texts.name_at c r)) (base_of c.names (texts.name_at c s)) (set_of c.names found.0)) found.1) (IsPrintedSet-from_tests ms [] is_names).read
-    ∙ ap (λ o. Some (Entry o (base_of c.names (texts.name_at c s)) (set_of c.names ms))) (base_of-name c r h b1)
-    ∙ ap (λ o. Some (Entry (Some r) o (set_of c.names ms))) (base_of-name c s h b2)
-    ∙ ap (λ o. Some (Entry (Some r) (Some s) o)) (set_of-members c a h (h.lawful.lawful.table.entry_within r s b1 b2)) in
+    at_end (Entry (place_of (texts.name_at c r) c.names) (place_of second.0 c.names) (set_of c.names found.0)) found.1) (name-read y more (word-of c s h b2))
+    ∙ ap (λ o. o >>= λ found. at_end (Entry (place_of (texts.name_at c r) c.names) (place_of (texts.name_at c s) c.names) (set_of c.names found.0)) found.1) (IsPrintedSet-from_tests ms [] is_names).read
+    ∙ ap (λ o. Some (Entry o (place_of (texts.name_at c s) c.names) (set_of c.names ms))) (place_of-name c r h b1)
+    ∙ ap (λ o. Some (Entry (Some r) o (set_of c.names ms))) (place_of-name c s h b2)
+    ∙ ap (λ o. Some (Entry (Some r) (Some s) o)) (set_of-members c.names c.meaning a h.lawful.distinct (size-is c h) (h.lawful.lawful.table.entry_within r s b1 b2)) in
     ap (λ o. or_else o (entry_line c.names (x ∷ rest))) no ∙ line
 
 converse-given : (c : Named) (m r : ℕ) → HasNames c → r < c.meaning.size → stated (token_line m (map lexeme_from (converse_words c r))) (upto c r 0) ≡ Ok (upto c (suc r) 0)
@@ -252,7 +246,7 @@ row-reads c m r (suc s) h b1 small =
     subst (λ ls. Reads ls (upto c n (r * n)) (upto c n (r * n + suc s))) (sym (token_lines-append m xs (entry_words c r s ∷ [])))
     (reads-append (printed_token_lines m xs) (printed_token_lines (m + length xs) (entry_words c r s ∷ [])) (upto c n (r * n)) (upto c n (r * n + s)) (upto c n (r * n + suc s))
     (row-reads c m r s h b1 (omega arith))
-    (upto c n (suc (r * n + s)), no-end c r (map lexeme_from (codes ":" ∷ texts.name_at c s ∷ codes "::" ∷ codes "(" ∷ (members n c (entry_at c.meaning r s) ++ (codes ")" ∷ [])))) h b1, entry-given c (m + length xs) r s h b1 (omega arith), ap (upto c n) (omega arith)))
+    (upto c n (suc (r * n + s)), no-end c r (map lexeme_from (codes ":" ∷ texts.name_at c s ∷ codes "::" ∷ codes "(" ∷ (members c (entry_at c.meaning r s) ++ (codes ")" ∷ [])))) h b1, entry-given c (m + length xs) r s h b1 (omega arith), ap (upto c n) (omega arith)))
 
 rows-read : (c : Named) (m r : ℕ) → HasNames c → r ≤ c.meaning.size → Reads (printed_token_lines m (row_lines c r)) (upto c c.meaning.size 0) (upto c c.meaning.size (r * c.meaning.size))
 unfolding row_lines
@@ -299,8 +293,8 @@ identity-again : (c : Named) (line : ℕ) → HasNames c → identified c.names 
 identity-again c line h =
     let x = lex (texts.name_at c c.meaning.identity) in
     let below = h.lawful.lawful.table.identity_below in
-    ap (λ o. formed line (o >>= λ found. at_end found.0 found.1) then λ name. known line (base_of c.names name)) (name-read x [] (word-of c c.meaning.identity h below))
-    ∙ ap (known line) (base_of-name c c.meaning.identity h below)
+    ap (λ o. formed line (o >>= λ found. at_end found.0 found.1) then λ name. known line (place_of name c.names)) (name-read x [] (word-of c c.meaning.identity h below))
+    ∙ ap (known line) (place_of-name c c.meaning.identity h below)
 
 nothing-upto : (c : Named) → HasNames c → nothing_given c.names c.meaning.identity ≡ upto c 0 0
 nothing-upto c h =

@@ -4,7 +4,8 @@ use Rattle.qsr_lex.specs.Lexemes.{Lexeme}
 use Rattle.qsr_lex.specs.Words.{name_at, names_at, behind_kind, behind_word}
 use Rattle.qsr_lex.specs.declared.tokens.TokenKind.TheVariants.{Colon, Colons, Stop}
 use Rattle.calculus_table.specs.Rel.{IsWithin}
-use Rattle.calculus_load.specs.Names.{base_of, set_of}
+use Rattle.calculus_table.specs.Names.{place_of}
+use Rattle.named_sets.specs.Named.{set_of}
 use Rattle.calculus_load.specs.declared.statement.Statement.{Statement}
 use Rattle.calculus_load.specs.declared.statement.Statement.TheVariants.{Converse, Entry}
 
@@ -32,19 +33,19 @@ identity_line words = behind_word (codes "identity") words >>= λ rest. name_at 
 
 -- `A :: B`: the converse of A is B
 abbrev pub behind_colons : List (List ℕ) → Option ℕ → List Lexeme → Option Statement
-behind_colons names first words = name_at words >>= λ second. at_end (Converse first (base_of names second.0)) second.1
+behind_colons names first words = name_at words >>= λ second. at_end (Converse first (place_of second.0 names)) second.1
 
 abbrev pub converse_line : List (List ℕ) → List Lexeme → Option Statement
-converse_line names words = name_at words >>= λ first. behind_kind Colons first.1 >>= behind_colons names (base_of names first.0)
+converse_line names words = name_at words >>= λ first. behind_kind Colons first.1 >>= behind_colons names (place_of first.0 names)
 
 -- `A : B :: ( C D .. )`: the composition of A and B is the set of C, D, ..
 abbrev pub behind_colon : List (List ℕ) → Option ℕ → List Lexeme → Option Statement
 behind_colon names first words =
     name_at words >>= λ second. behind_kind Colons second.1 >>= λ rest. names_at rest >>= λ found.
-    at_end (Entry first (base_of names second.0) (set_of names found.0)) found.1
+    at_end (Entry first (place_of second.0 names) (set_of names found.0)) found.1
 
 abbrev pub entry_line : List (List ℕ) → List Lexeme → Option Statement
-entry_line names words = name_at words >>= λ first. behind_kind Colon first.1 >>= behind_colon names (base_of names first.0)
+entry_line names words = name_at words >>= λ first. behind_kind Colon first.1 >>= behind_colon names (place_of first.0 names)
 
 -- either of the two
 abbrev pub or_else : {A : Type 0} → Option A → Option A → Option A

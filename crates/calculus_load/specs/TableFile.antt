@@ -7,7 +7,8 @@ use Rattle.calculus_table.specs.Calculus.{Named}
 use Rattle.calculus_table.specs.TableFault.{IsFaultOf}
 use Rattle.calculus_load.specs.LinesToRead.{lines_to_read, end_place}
 use Rattle.calculus_load.specs.Given.{Given, give_converse, give_entry, complete}
-use Rattle.calculus_load.specs.Names.{base_of, allowed_names}
+use Rattle.calculus_table.specs.Names.{place_of}
+use Rattle.calculus_load.specs.Names.{allowed_names}
 use Rattle.calculus_load.specs.Statements.{names_line, identity_line, statement_line, is_end_line}
 use Rattle.calculus_load.specs.declared.statement.Statement.{Statement}
 use Rattle.calculus_load.specs.declared.statement.Statement.TheVariants.{Converse, Entry}
@@ -60,7 +61,7 @@ named line words = formed line (names_line words) then allowed_names line
 
 -- the base relation of the identity line
 abbrev pub identified : List (List ℕ) → ℕ → List Lexeme → Result ℕ LoadFault
-identified names line words = formed line (identity_line words) then λ name. known line (base_of names name)
+identified names line words = formed line (identity_line words) then λ name. known line (place_of name names)
 
 -- the identity line, and the lines behind it
 abbrev pub from_identity : ℕ → List TokenLine → List (List ℕ) → Result Given LoadFault

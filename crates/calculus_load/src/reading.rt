@@ -8,16 +8,17 @@ ghost use Rattle.qsr_lex.specs.TokenLines.{by_line, token_line};
 ghost use Rattle.calculus_load.specs.LinesToRead.{bad_lines, lines_to_read, end_place};
 ghost use Rattle.calculus_table.specs.Calculus.{NamesItsBases};
 ghost use Rattle.calculus_table.specs.declared.TheConstants.{MAX_BASES};
-ghost use Rattle.calculus_load.specs.Names.{base_of, allowed_names};
+ghost use Rattle.calculus_load.specs.Names.{allowed_names};
 ghost use Rattle.calculus_load.specs.Statements.{names_line, identity_line, behind_colons, behind_colon, statement_line, is_end_line, IsBoundedBy};
 ghost use Rattle.calculus_load.specs.TableFile.{formed, known, named, identified, stated, nothing_behind, statements, from_identity, from_names, given_by, table_of, IsFaultIn, IsLoadFaultOf, IsLineTaken};
 
 use crate::draft::Draft;
 use crate::fault::LoadFault;
 use crate::lines::TableLines;
-use crate::names::{base_of, first_repeat, set_of};
+use crate::names::first_repeat;
 use crate::statement::Statement;
-use calculus_table::{Calculus, MAX_BASES, TableFault};
+use calculus_table::{Calculus, MAX_BASES, TableFault, place_of};
+use named_sets::set_of;
 use qsr_lex::{
     LineReader, NamesStop, Readable, TextLine, TokenKind, WordReader, owned_names, readable,
 };
@@ -103,7 +104,7 @@ fn identified(names: &[String], line: u32, mut words: WordReader) -> Result<u32,
     if !words.is_empty() {
         return Err(LoadFault::Syntax { line });
     }
-    match base_of(names, name) {
+    match place_of(names, name) {
         Some(id) => Ok(id),
         None => Err(LoadFault::Unknown { line }),
     }
@@ -128,7 +129,7 @@ fn behind_colons(
     if !words.is_empty() {
         return Err(LoadFault::Syntax { line });
     }
-    Ok(Statement::Converse(first, base_of(names, second)))
+    Ok(Statement::Converse(first, place_of(names, second)))
 }
 
 /// What `A : B :: ( C D .. )` says, from behind the colon.
@@ -155,7 +156,7 @@ fn behind_colon(
     if !words.is_empty() {
         return Err(LoadFault::Syntax { line });
     }
-    Ok(Statement::Entry(first, base_of(names, second), set_of(names, &set)))
+    Ok(Statement::Entry(first, place_of(names, second), set_of(names, &set)))
 }
 
 /// What a line says that gives a converse or a composition.
@@ -173,7 +174,7 @@ fn statement(
     let Some(first) = words.name() else {
         return Err(LoadFault::Syntax { line });
     };
-    let first = base_of(names, first);
+    let first = place_of(names, first);
     if words.take_kind(TokenKind::Colons) {
         return behind_colons(names, line, first, words);
     }

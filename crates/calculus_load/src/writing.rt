@@ -1,9 +1,11 @@
 ghost use Rattle.std.specs.Prelude.{◌≡◌, ◌<◌, ◌++◌, codes, OnOk, IfOk};
 ghost use Rattle.std.specs.String.{string_bytes};
-ghost use Rattle.calculus_load.specs.TableText.{text_below, member_text, names_text, identity_text, converse_text, entry_text, row_text, table_text};
+ghost use Rattle.named_sets.specs.Written.{text_below};
+ghost use Rattle.calculus_load.specs.TableText.{names_text, identity_text, converse_text, entry_text, row_text, table_text};
 ghost use Rattle.calculus_table.specs.Meaning.{converse_at, entry_at};
 
 use calculus_table::{Calculus, Compose, Memory, Rel};
+use named_sets::push_set;
 use std::alloc::{AllocError, Global};
 
 /// Appends the line of the names.
@@ -34,7 +36,7 @@ fn converse_of(c: &Calculus, r: u32) -> u32
     ensures below { result < c.now.meaning.size }
 {
     let _size = c.size();
-    c.converse(Rel::single(r)).word().trailing_zeros()
+    c.converse(Rel::single(r)).least()
 }
 
 /// The composition of two base relations.
@@ -57,17 +59,6 @@ fn push_converse(text: &mut String, c: &Calculus, r: u32) -> Result<(), AllocErr
     Ok(())
 }
 
-/// Appends the name of `r`, where it is a member of the set.
-fn push_member(text: &mut String, c: &Calculus, set: Rel, r: u32) -> Result<(), AllocError>
-    requires { r < c.now.meaning.size }
-    ensures { OnOk result (string_bytes text.new ≡ string_bytes text.old ++ member_text c.now set r) }
-{
-    if set.has(r) {
-        write!(text, "{} ", c.name(r))?;
-    }
-    Ok(())
-}
-
 /// Appends the line of the composition of `r` and `s`.
 fn push_entry(text: &mut String, c: &Calculus, r: u32, s: u32) -> Result<(), AllocError>
     requires first { r < c.now.meaning.size }
@@ -75,11 +66,9 @@ fn push_entry(text: &mut String, c: &Calculus, r: u32, s: u32) -> Result<(), All
     ensures { OnOk result (string_bytes text.new ≡ string_bytes text.old ++ entry_text c.now r s) }
 {
     let set = composition_of(c, r, s);
-    write!(text, "{} : {} :: ( ", c.name(r), c.name(s))?;
-    for t in 0..c.size() {
-        push_member(text, c, set, t)?;
-    }
-    text.push_str(")\n")?;
+    write!(text, "{} : {} :: ", c.name(r), c.name(s))?;
+    push_set(text, c, set)?;
+    text.push_str("\n")?;
     Ok(())
 }
 

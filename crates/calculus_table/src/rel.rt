@@ -94,7 +94,7 @@ impl Rel {
     }
 
     /// The least member.
-    pub(crate) fn least(self) -> u32
+    pub fn least(self) -> u32
         requires { self ≢ 0 }
         ensures member { Has self result }
         ensures below { result < 64 }

@@ -2,10 +2,12 @@
 use Rattle.std.proofs.Common.{◌≡◌, ℕ, zero, suc, ◌<◌, ◌≤◌, ◌==◌, ◌&&◌, Bool, true, false, cond, List, [], ◌∷◌, ◌++◌, length, take, refl, sym, ◌∙◌, ap, arith, append_assoc, append-nil, codes}
 use Rattle.std.specs.Int.{bit_at}
 use Rattle.std.specs.List.{list_all, flat_map}
+use Rattle.std.proofs.lemmas.Bool.{and_parts}
 use Rattle.std.proofs.lemmas.Grind.{flat_map-append}
 use Rattle.std.proofs.lemmas.List.Folds.{list_all-append}
 use Rattle.qsr_lex.specs.Names.{is_name}
-use Rattle.qsr_lex.specs.Printed.{spaced}
+use Rattle.qsr_lex.specs.Printed.{is_token_text, spaced}
+use Rattle.qsr_lex.proofs.PrintedNames.{IsPrintedName-from_test}
 use Rattle.calculus_table.specs.Calculus.{Named}
 use Rattle.named_sets.specs.Named.{name_of, members_below}
 use Rattle.named_sets.specs.Written.{text_below, word_text, member_text, members, set_text, set_words, WrittenSetIsRead}
@@ -77,16 +79,15 @@ members-names names a (suc r) h below =
 
     name_of-name : (names : List (List ℕ)) (k : ℕ) → list_all is_name names ≡ true → k < length names → is_name (name_of names k) ≡ true
     name_of-name [] k h below = absurd (omega arith)
-    name_of-name (x ∷ xs) zero h below = first (is_name x) (list_all is_name xs) h
-      where
-        first : (a b : Bool) → (a && b) ≡ true → a ≡ true
-        first true b h = refl
-        first false b h = h
-    name_of-name (x ∷ xs) (suc k) h below = name_of-name xs k (second (is_name x) (list_all is_name xs) h) (omega arith)
-      where
-        second : (a b : Bool) → (a && b) ≡ true → b ≡ true
-        second true b h = h
-        second false b h = cc
+    name_of-name (x ∷ xs) zero h below = (and_parts (is_name x) (list_all is_name xs) h).0
+    name_of-name (x ∷ xs) (suc k) h below = name_of-name xs k (and_parts (is_name x) (list_all is_name xs) h).1 (omega arith)
+
+-- names in front of a closing bracket are tokens
+pub closed-tokens : (names : List (List ℕ)) → list_all is_name names ≡ true → list_all is_token_text (names ++ (41 ∷ []) ∷ []) ≡ true
+closed-tokens [] h = refl
+closed-tokens (w ∷ ws) h =
+    let parts = and_parts (is_name w) (list_all is_name ws) h in
+    ap (λ b. b && list_all is_token_text (ws ++ (41 ∷ []) ∷ [])) (IsPrintedName-from_test w parts.0).token ∙ closed-tokens ws parts.1
 
 -- ---- the law
 

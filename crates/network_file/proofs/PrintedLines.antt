@@ -1,7 +1,7 @@
 -- The canonical text of a network is printed of lines of tokens.
 use Rattle.std.proofs.Common.{◌≡◌, ℕ, zero, suc, ◌^◌, ◌<◌, ◌≤◌, ◌==◌, Bool, true, false, cond, nat_lt, List, [], ◌∷◌, ◌++◌, length, map, refl, sym, ◌∙◌, ap, subst, arith, append_assoc, append-nil, slice_index, codes, decimal, ◌&&◌, ◌⊎◌, inl, inr}
 use Rattle.std.specs.List.{list_all, flat_map, AllByRecursion}
-use Rattle.std.proofs.lemmas.Bool.{and_parts, cases_lt, lt-ltb, ltb-true}
+use Rattle.std.proofs.lemmas.Bool.{cases_lt, lt-ltb, ltb-true}
 use Rattle.std.proofs.lemmas.Bool.Decides.{nat_tests}
 use Rattle.std.proofs.lemmas.Grind.{flat_map-append}
 use Rattle.std.proofs.lemmas.List.{take_all}
@@ -11,10 +11,9 @@ use Rattle.network_words.specs.Network.{Network}
 use Rattle.network_words.specs.declared.TheConstants.{MAX_NODES}
 use Rattle.qsr_lex.specs.Names.{is_name}
 use Rattle.qsr_lex.specs.Printed.{is_token_text, are_tokens, spaced, printed_line, printed}
-use Rattle.qsr_lex.proofs.PrintedNames.{IsPrintedName-from_test}
 use Rattle.qsr_lex.proofs.PrintedNumbers.{IsPrintedNumber-below}
 use Rattle.named_sets.specs.Written.{text_below, word_text, members, set_words}
-use Rattle.named_sets.proofs.WrittenSets.{with_space, text_below-names, spaced-cons, spaced-close, set_text-spaced, members-names}
+use Rattle.named_sets.proofs.WrittenSets.{with_space, text_below-names, spaced-cons, spaced-close, set_text-spaced, members-names, closed-tokens}
 use Rattle.network_file.specs.NetworkText.{edge_line, later_line, row_text, network_text}
 
 -- ---- the pairs of nodes in edge order
@@ -119,12 +118,6 @@ both a b p q = rw (p, q) refl
 pub small : (k : ℕ) → k ≤ MAX_NODES → k < 10 ^ 18
 small k h = omega arith
 
-names_are_tokens : (ws : List (List ℕ)) → list_all is_name ws ≡ true → list_all is_token_text (ws ++ (41 ∷ []) ∷ []) ≡ true
-names_are_tokens [] h = refl
-names_are_tokens (w ∷ ws) h =
-    both (is_token_text w) (list_all is_token_text (ws ++ (41 ∷ []) ∷ [])) (IsPrintedName-from_test w (and_parts (is_name w) (list_all is_name ws) h).0).token
-    (names_are_tokens ws (and_parts (is_name w) (list_all is_name ws) h).1)
-
 -- a pair of nodes in edge order
 pub record IsPair (n : ℕ) (p : ℕ × ℕ) : Type 0 where
   pub order : p.0 < p.1
@@ -136,7 +129,7 @@ edge_tokens c net p few one_each names pair =
     let ws = members c a ++ (41 ∷ []) ∷ [] in
     both (is_token_text (decimal p.0)) (list_all is_token_text (decimal p.1 ∷ (40 ∷ []) ∷ ws)) (IsPrintedNumber-below p.0 (small p.0 (omega arith))).token
     (both (is_token_text (decimal p.1)) (list_all is_token_text ((40 ∷ []) ∷ ws)) (IsPrintedNumber-below p.1 (small p.1 (omega arith))).token
-    (names_are_tokens (members c a) (members-names c.names a c.meaning.size names (omega arith))))
+    (closed-tokens (members c a) (members-names c.names a c.meaning.size names (omega arith))))
 
 edges_tokens : (c : Named) (net : Network) (ps : List (ℕ × ℕ)) → net.nodes ≤ MAX_NODES → length c.names ≡ c.meaning.size → list_all is_name c.names ≡ true → AllByRecursion (IsPair net.nodes) ps →
     list_all are_tokens (map (edge_words c net) ps ++ ((46 ∷ []) ∷ []) ∷ []) ≡ true
@@ -147,7 +140,7 @@ edges_tokens c net (p ∷ ps) few one_each names pairs =
 
 names_tokens : (names : List (List ℕ)) (rest : List (List (List ℕ))) → list_all is_name names ≡ true → list_all are_tokens rest ≡ true → list_all are_tokens (names_lines names ++ rest) ≡ true
 names_tokens [] rest h k = k
-names_tokens (x ∷ xs) rest h k = both (are_tokens (names_words (x ∷ xs))) (list_all are_tokens rest) (names_are_tokens (x ∷ xs) h) k
+names_tokens (x ∷ xs) rest h k = both (are_tokens (names_words (x ∷ xs))) (list_all are_tokens rest) (closed-tokens (x ∷ xs) h) k
 
 pub file_tokens : (c : Named) (net : Network) (ps : List (ℕ × ℕ)) → net.nodes ≤ MAX_NODES → length c.names ≡ c.meaning.size → list_all is_name c.names ≡ true → list_all is_name net.names ≡ true → AllByRecursion (IsPair net.nodes) ps →
     list_all are_tokens (file_lines c net ps) ≡ true

@@ -11,7 +11,7 @@ pub returns-then-take_kind-clause-fault : goal.returns-then-take_kind-clause-fau
 returns-then-take_kind-clause-fault c =
     let names = map string_bytes c.args.names.now in
     subst (λ (o : Option Statement). IfErr c.behind_colons.result (IsFaultIn (formed c.args.line o)))
-    (ap (λ b. behind_colons names b c.take_kind.new.self) c.base_of-first.ensures.value
+    (ap (λ b. behind_colons names b c.take_kind.new.self) c.place_of-first.ensures.value
     ∙ statement_line-colons names c.args.words c.name.new.self c.take_kind.new.self c.in-Some.first.now c.in-Some.ensures.found c.if-take_kind.ensures)
     c.behind_colons.ensures.fault
 
@@ -20,7 +20,7 @@ returns-then-take_kind-2-clause-fault c =
     let names = map string_bytes c.args.names.now in
     let left = c.if-take_kind.ensures in
     subst (λ (o : Option Statement). IfErr c.behind_colon.result (IsFaultIn (formed c.args.line o)))
-    (ap (λ b. behind_colon names b c.take_kind-2.new.self) c.base_of-first.ensures.value
+    (ap (λ b. behind_colon names b c.take_kind-2.new.self) c.place_of-first.ensures.value
     ∙ statement_line-colon names c.args.words c.take_kind.new.self c.take_kind-2.new.self c.in-Some.first.now
     (c.in-Some.ensures.found ∙ ap (λ (r : List Lexeme). Some (c.in-Some.first.now, r)) (sym left.1)) c.if-take_kind-2.ensures)
     c.behind_colon.ensures.fault

@@ -1,6 +1,6 @@
 use Rattle.std.proofs.Common.{◌^◌, ◌∙◌, ap}
 use Rattle.calculus_table.specs.Composition.{composition}
-use Rattle.calculus_load.proofs.Singles.{composition-single}
+use Rattle.calculus_table.proofs.Singles.{composition-single}
 use Rattle.calculus_load.proofs.writing.composition_of.Goals as goal
 
 pub returns : goal.returns
