@@ -9,6 +9,7 @@ use lib.Bits.{or_zero_r}
 use Rattle.std.proofs.lemmas.Bool.{and_parts, le-ltb, eq-eqb}
 use Rattle.std.proofs.lemmas.Bool.Decides.{nat_tests}
 use Rattle.qsr_lex.specs.Names.{is_name}
+use Rattle.qsr_lex.proofs.WrittenTexts.{members_below}
 use Rattle.calculus_table.specs.Rel.{Has, IsWithin}
 use Rattle.calculus_table.specs.Composition.{full_of, union_below, if_has}
 use Rattle.calculus_table.specs.Calculus.{Named, NamesItsBases}
@@ -20,7 +21,7 @@ use Rattle.calculus_load.specs.TableText.{name_at}
 use Rattle.calculus_load.specs.declared.fault.LoadFault.TheVariants.{TooMany}
 use Rattle.std.proofs.Common.{Ok, Err}
 use Rattle.calculus_load.proofs.NamesRead.{repeat_behind-miss}
-use Rattle.calculus_load.proofs.PrintedTable.{listed, members}
+use Rattle.calculus_load.proofs.PrintedTable.{listed}
 
 -- the names of a calculus are words that may name something
 pub record HasNames (c : Named) : Type 0 where
@@ -130,11 +131,11 @@ bit-cases c a k all true h below is e =
     ap (with_base (Some all)) (base_of-name c k h below) ∙ ap Some (union_below-has a k all (λ r. 2 ^ r) e (bit_is a k is))
 bit-cases c a k all false h below is e = ap Some (union_below-has_not a k all (λ r. 2 ^ r) e (bit_is_not a k is))
 
-members-set : (c : Named) (a k : ℕ) → HasNames c → k ≤ c.meaning.size → with_bases c.names (Some 0) (members k c a) ≡ Some (union_below k (λ r. if_has a r (2 ^ r)))
-unfolding members
+members-set : (c : Named) (a k : ℕ) → HasNames c → k ≤ c.meaning.size → with_bases c.names (Some 0) (members_below c.names a k) ≡ Some (union_below k (λ r. if_has a r (2 ^ r)))
+unfolding members_below
 members-set c a zero h small = ap Some (union_below-none (λ r. if_has a r (2 ^ r)))
 members-set c a (suc k) h small =
-    with_bases-append c.names (Some 0) (members k c a) (cond (bit_at a k == 1) (name_at c k ∷ []) [])
+    with_bases-append c.names (Some 0) (members_below c.names a k) (cond (bit_at a k == 1) (name_at c k ∷ []) [])
     ∙ ap (λ s. with_bases c.names s (cond (bit_at a k == 1) (name_at c k ∷ []) [])) (members-set c a k h (omega arith))
     ∙ bit-cases c a k (union_below k (λ r. if_has a r (2 ^ r))) (bit_at a k == 1) h (omega arith) refl refl
     ∙ ap (λ m. Some (union_below m (λ r. if_has a r (2 ^ r)))) (add-one k)
@@ -151,5 +152,5 @@ union-all c a within =
     })
     (record { each = λ t k. Has-union_below n (λ r. if_has a r (2 ^ r)) t t (full-member c.meaning t (within.each t k)) (Has-if_has a t (2 ^ t) t k (Has-single t)) })
 
-pub set_of-members : (c : Named) (a : ℕ) → HasNames c → IsWithin a (full_of c.meaning) → set_of c.names (members c.meaning.size c a) ≡ Some a
+pub set_of-members : (c : Named) (a : ℕ) → HasNames c → IsWithin a (full_of c.meaning) → set_of c.names (members_below c.names a c.meaning.size) ≡ Some a
 set_of-members c a h within = members-set c a c.meaning.size h (omega arith) ∙ ap Some (union-all c a within)

@@ -1,21 +1,15 @@
 -- The canonical text of a table as lines of tokens with one space between.
-use Rattle.std.proofs.Common.{◌≡◌, ℕ, zero, suc, ◌==◌, Bool, true, false, cond, List, [], ◌∷◌, ◌++◌, codes, refl, sym, ap, ◌∙◌, append_assoc, append-nil}
-use Rattle.std.specs.List.{flat_map}
-use Rattle.std.specs.Int.{bit_at}
-use Rattle.qsr_lex.specs.Printed.{spaced, printed_line, printed}
+use Rattle.std.proofs.Common.{◌≡◌, ℕ, zero, suc, List, [], ◌∷◌, ◌++◌, codes, refl, sym, ap, ◌∙◌, append_assoc, append-nil}
+use Rattle.qsr_lex.specs.Printed.{spaced, printed_line, printed, text_below, word_text}
+use Rattle.qsr_lex.proofs.WrittenTexts.{spaces, spaces-append, members_below, text_below-members, spaced-more, spaced-close}
 use Rattle.calculus_table.specs.Meaning.{converse_at, entry_at}
 use Rattle.calculus_table.specs.Calculus.{Named}
-use Rattle.calculus_load.specs.TableText.{text_below, name_at, word_text, member_text, names_text, identity_text, converse_text, entry_text, row_text, table_text}
+use Rattle.calculus_load.specs.TableText.{name_at, names_text, identity_text, converse_text, entry_text, row_text, table_text}
 
 -- f 0, .., f (n - 1)
 unfoldable pub listed : {A : Type 0} → ℕ → (ℕ → A) → List A
 listed zero f = []
 listed (suc n) f = listed n f ++ (f n ∷ [])
-
--- the names of the members below n of a set
-unfoldable pub members : ℕ → Named → ℕ → List (List ℕ)
-members zero c a = []
-members (suc n) c a = members n c a ++ cond (bit_at a n == 1) (name_at c n ∷ []) []
 
 abbrev pub names_words : Named → List (List ℕ)
 names_words c = codes "names" ∷ codes "(" ∷ (listed c.meaning.size (name_at c) ++ (codes ")" ∷ []))
@@ -27,7 +21,7 @@ abbrev pub converse_words : Named → ℕ → List (List ℕ)
 converse_words c r = name_at c r ∷ codes "::" ∷ name_at c (converse_at c.meaning r) ∷ []
 
 abbrev pub entry_words : Named → ℕ → ℕ → List (List ℕ)
-entry_words c r s = name_at c r ∷ codes ":" ∷ name_at c s ∷ codes "::" ∷ codes "(" ∷ (members c.meaning.size c (entry_at c.meaning r s) ++ (codes ")" ∷ []))
+entry_words c r s = name_at c r ∷ codes ":" ∷ name_at c s ∷ codes "::" ∷ codes "(" ∷ (members_below c.names (entry_at c.meaning r s) c.meaning.size ++ (codes ")" ∷ []))
 
 unfoldable pub row_lines : Named → ℕ → List (List (List ℕ))
 row_lines c zero = []
@@ -40,35 +34,16 @@ abbrev pub table_lines : Named → List (List (List ℕ))
 table_lines c =
     names_words c ∷ identity_words c ∷ (listed c.meaning.size (converse_words c) ++ (row_lines c c.meaning.size ++ end_lines))
 
--- words, each with a space behind
-abbrev spaces : List (List ℕ) → List ℕ
-spaces ws = flat_map (λ w. w ++ codes " ") ws
-
-spaces-append : (xs ys : List (List ℕ)) → spaces (xs ++ ys) ≡ spaces xs ++ spaces ys
-spaces-append [] ys = refl
-spaces-append (x ∷ xs) ys = ap (λ t. (x ++ codes " ") ++ t) (spaces-append xs ys) ∙ sym (append_assoc (x ++ codes " ") (spaces xs) (spaces ys))
-
 printed-append : (xs ys : List (List (List ℕ))) → printed (xs ++ ys) ≡ printed xs ++ printed ys
 printed-append [] ys = refl
 printed-append (x ∷ xs) ys = ap (λ t. printed_line x ++ t) (printed-append xs ys) ∙ sym (append_assoc (printed_line x) (printed xs) (printed ys))
 
-names-spaces : (c : Named) (n : ℕ) → text_below n (word_text c) ≡ spaces (listed n (name_at c))
+names-spaces : (c : Named) (n : ℕ) → text_below n (word_text c.names) ≡ spaces (listed n (name_at c))
 unfolding text_below listed
 names-spaces c zero = refl
 names-spaces c (suc n) =
-    ap (λ t. t ++ word_text c n) (names-spaces c n) ∙ ap (λ t. spaces (listed n (name_at c)) ++ t) (sym (append-nil (word_text c n)))
+    ap (λ t. t ++ word_text c.names n) (names-spaces c n) ∙ ap (λ t. spaces (listed n (name_at c)) ++ t) (sym (append-nil (word_text c.names n)))
     ∙ sym (spaces-append (listed n (name_at c)) (name_at c n ∷ []))
-
-member-spaces : (b : Bool) (c : Named) (n : ℕ) → cond b (word_text c n) [] ≡ spaces (cond b (name_at c n ∷ []) [])
-member-spaces true c n = sym (append-nil (word_text c n))
-member-spaces false c n = refl
-
-members-spaces : (c : Named) (a n : ℕ) → text_below n (member_text c a) ≡ spaces (members n c a)
-unfolding text_below members
-members-spaces c a zero = refl
-members-spaces c a (suc n) =
-    ap (λ t. t ++ member_text c a n) (members-spaces c a n) ∙ ap (λ t. spaces (members n c a) ++ t) (member-spaces (bit_at a n == 1) c n)
-    ∙ sym (spaces-append (members n c a) (cond (bit_at a n == 1) (name_at c n ∷ []) []))
 
 lines-printed : (n : ℕ) (text : ℕ → List ℕ) (words : ℕ → List (List ℕ)) → ((k : ℕ) → text k ≡ printed_line (words k)) → text_below n text ≡ printed (listed n words)
 unfolding text_below listed
@@ -76,16 +51,6 @@ lines-printed zero text words h = refl
 lines-printed (suc n) text words h =
     ap (λ t. t ++ text n) (lines-printed n text words h) ∙ ap (λ t. printed (listed n words) ++ t) (h n ∙ sym (append-nil (printed_line (words n))))
     ∙ sym (printed-append (listed n words) (words n ∷ []))
-
-spaced-more : (w : List ℕ) (ws : List (List ℕ)) (z : List ℕ) → spaced (w ∷ (ws ++ (z ∷ []))) ≡ w ++ 32 ∷ spaced (ws ++ (z ∷ []))
-spaced-more w [] z = refl
-spaced-more w (v ∷ ws) z = refl
-
-spaced-close : (ws : List (List ℕ)) → spaced (ws ++ (codes ")" ∷ [])) ≡ spaces ws ++ codes ")"
-spaced-close [] = refl
-spaced-close (w ∷ ws) =
-    spaced-more w ws (codes ")") ∙ ap (λ t. w ++ 32 ∷ t) (spaced-close ws)
-    ∙ sym (append_assoc w (codes " ") (spaces ws ++ codes ")")) ∙ sym (append_assoc (w ++ codes " ") (spaces ws) (codes ")"))
 
 names-line : (c : Named) → names_text c ≡ printed_line (names_words c)
 names-line c =
@@ -107,10 +72,10 @@ last x y t = simp append_assoc
 entry-line : (c : Named) (r s : ℕ) → entry_text c r s ≡ printed_line (entry_words c r s)
 entry-line c r s =
     let a = entry_at c.meaning r s in
-    let ws = members c.meaning.size c a in
+    let ws = members_below c.names a c.meaning.size in
     let front = name_at c r ++ codes " : " ++ name_at c s ++ codes " :: " in
     let close = spaced-more (codes "(") ws (codes ")") ∙ ap (λ t. codes "( " ++ t) (spaced-close ws) in
-    ap (λ t. name_at c r ++ codes " : " ++ name_at c s ++ codes " :: ( " ++ t ++ codes ")\n") (members-spaces c a c.meaning.size)
+    ap (λ t. name_at c r ++ codes " : " ++ name_at c s ++ codes " :: ( " ++ t ++ codes ")\n") (text_below-members c.names a c.meaning.size)
     ∙ regroup (name_at c r) (codes " : ") (name_at c s) (codes " :: ") (codes "( ") (spaces ws)
     ∙ ap (λ t. name_at c r ++ (codes " : " ++ (name_at c s ++ (codes " :: " ++ (t ++ codes "\n"))))) (sym close)
     ∙ last (name_at c r) (name_at c s) (spaced (codes "(" ∷ (ws ++ (codes ")" ∷ []))))

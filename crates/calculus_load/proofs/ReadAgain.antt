@@ -5,7 +5,7 @@ use Rattle.std.specs.Int.{bit_at}
 use Rattle.std.proofs.lemmas.Nat.{mul-add-lt}
 use Rattle.qsr_lex.specs.Lexemes.{Lexeme}
 use Rattle.qsr_lex.specs.Names.{is_name}
-use Rattle.qsr_lex.specs.Words.{name_at, names_at, behind_kind, is_name_token, is_same_kind}
+use Rattle.qsr_lex.specs.Words.{name_at, names_at, behind_kind, is_name_token, is_same_kind, ◌>>=◌, at_end, ends_there, is_end_line}
 use Rattle.qsr_lex.specs.TextLines.{readable_text}
 use Rattle.qsr_lex.specs.TokenLines.{TokenLine, add_line, token_line, token_lines}
 use Rattle.qsr_lex.specs.Printed.{printed, is_token_text, are_tokens, lexeme_from, printed_token_lines, IsReadAgain}
@@ -13,12 +13,13 @@ use Rattle.qsr_lex.specs.declared.tokens.TokenKind.TheVariants.{Colon, Colons, S
 use Rattle.qsr_lex.proofs.CleanLines.{readable_text-all}
 use Rattle.qsr_lex.proofs.PrintedText.{IsReadAgain-from_tokens}
 use Rattle.qsr_lex.proofs.PrintedNames.{IsNameText-from_test, kind_of-word, IsPrintedName-from_test, IsPrintedSet-from_tests}
+use Rattle.qsr_lex.proofs.WrittenTexts.{members_below}
 use Rattle.calculus_table.specs.Meaning.{converse_at, entry_at}
 use Rattle.calculus_table.specs.Calculus.{Named}
 use Rattle.calculus_load.specs.Given.{Given, value_of, first_missing, first_missing_from, complete}
 use Rattle.calculus_load.specs.LinesToRead.{bad_lines, lines_to_read, end_place}
 use Rattle.calculus_load.specs.Names.{base_of, set_of, allowed_names}
-use Rattle.calculus_load.specs.Statements.{◌>>=◌, at_end, some_names, names_line, converse_line, behind_colons, entry_line, behind_colon, or_else, statement_line, ends_there, is_end_line}
+use Rattle.calculus_load.specs.Statements.{some_names, names_line, converse_line, behind_colons, entry_line, behind_colon, or_else, statement_line}
 use Rattle.calculus_load.specs.TableFile.{◌then◌, formed, known, said, stated, nothing_behind, statements, nothing_given, named, identified, from_identity, from_names, table_of}
 use Rattle.calculus_load.specs.TableText.{table_text}
 use Rattle.calculus_load.specs.TableText as texts
@@ -26,7 +27,7 @@ use Rattle.calculus_load.specs.declared.statement.Statement.TheVariants.{Convers
 use Rattle.calculus_load.specs.declared.fault.LoadFault.{LoadFault}
 use Rattle.calculus_load.specs.declared.fault.LoadFault.TheVariants.{Twice}
 use Rattle.calculus_load.proofs.Faults.{complete-given}
-use Rattle.calculus_load.proofs.PrintedTable.{listed, members, names_words, identity_words, converse_words, entry_words, row_lines, end_lines, table_lines, table_text-printed}
+use Rattle.calculus_load.proofs.PrintedTable.{listed, names_words, identity_words, converse_words, entry_words, row_lines, end_lines, table_lines, table_text-printed}
 use Rattle.calculus_load.proofs.NamesAgain.{HasNames, size-is, name_at-is_name, listed-names, base_of-name, allowed_names-again, set_of-members}
 
 -- ---- each text is one token
@@ -47,11 +48,11 @@ member-test : (test : List ℕ → Bool) (b : Bool) (w : List ℕ) → test w �
 member-test test true w h = ap (λ b. b && true) h
 member-test test false w h = refl
 
-all-members : (test : List ℕ → Bool) (n : ℕ) (c : Named) (a : ℕ) → ((k : ℕ) → k < n → test (texts.name_at c k) ≡ true) → list_all test (members n c a) ≡ true
-unfolding members
+all-members : (test : List ℕ → Bool) (n : ℕ) (c : Named) (a : ℕ) → ((k : ℕ) → k < n → test (texts.name_at c k) ≡ true) → list_all test (members_below c.names a n) ≡ true
+unfolding members_below
 all-members test zero c a h = refl
 all-members test (suc n) c a h =
-    all-append test (members n c a) (cond (bit_at a n == 1) (texts.name_at c n ∷ []) []) (all-members test n c a (λ k b. h k (omega arith))) (member-test test (bit_at a n == 1) (texts.name_at c n) (h n (omega arith)))
+    all-append test (members_below c.names a n) (cond (bit_at a n == 1) (texts.name_at c n ∷ []) []) (all-members test n c a (λ k b. h k (omega arith))) (member-test test (bit_at a n == 1) (texts.name_at c n) (h n (omega arith)))
 
 name-token : (c : Named) (r : ℕ) → HasNames c → r < c.meaning.size → is_token_text (texts.name_at c r) ≡ true
 name-token c r h below = (IsPrintedName-from_test (texts.name_at c r) (name_at-is_name c r h below)).token
@@ -66,7 +67,7 @@ converse-tokens c r h below =
 
 entry-tokens : (c : Named) (r s : ℕ) → HasNames c → r < c.meaning.size → s < c.meaning.size → are_tokens (entry_words c r s) ≡ true
 entry-tokens c r s h b1 b2 =
-    let ms = members c.meaning.size c (entry_at c.meaning r s) in
+    let ms = members_below c.names (entry_at c.meaning r s) c.meaning.size in
     both (is_token_text (texts.name_at c r)) (is_token_text (texts.name_at c s) && list_all is_token_text (ms ++ (codes ")" ∷ []))) (name-token c r h b1)
     (both (is_token_text (texts.name_at c s)) (list_all is_token_text (ms ++ (codes ")" ∷ []))) (name-token c s h b2)
     (all-append is_token_text ms (codes ")" ∷ []) (all-members is_token_text c.meaning.size c (entry_at c.meaning r s) (λ k b. name-token c k h b)) refl))
@@ -189,7 +190,7 @@ entry-form : (c : Named) (r s : ℕ) → HasNames c → r < c.meaning.size → s
     → statement_line c.names (map lexeme_from (entry_words c r s)) ≡ Some (Entry (Some r) (Some s) (Some (entry_at c.meaning r s)))
 entry-form c r s h b1 b2 =
     let a = entry_at c.meaning r s in
-    let ms = members c.meaning.size c a in
+    let ms = members_below c.names a c.meaning.size in
     let x = lex (texts.name_at c r) in
     let y = lex (texts.name_at c s) in
     let inner = map lexeme_from (codes "(" ∷ (ms ++ (codes ")" ∷ []))) in
@@ -252,7 +253,7 @@ row-reads c m r (suc s) h b1 small =
     subst (λ ls. Reads ls (upto c n (r * n)) (upto c n (r * n + suc s))) (sym (token_lines-append m xs (entry_words c r s ∷ [])))
     (reads-append (printed_token_lines m xs) (printed_token_lines (m + length xs) (entry_words c r s ∷ [])) (upto c n (r * n)) (upto c n (r * n + s)) (upto c n (r * n + suc s))
     (row-reads c m r s h b1 (omega arith))
-    (upto c n (suc (r * n + s)), no-end c r (map lexeme_from (codes ":" ∷ texts.name_at c s ∷ codes "::" ∷ codes "(" ∷ (members n c (entry_at c.meaning r s) ++ (codes ")" ∷ [])))) h b1, entry-given c (m + length xs) r s h b1 (omega arith), ap (upto c n) (omega arith)))
+    (upto c n (suc (r * n + s)), no-end c r (map lexeme_from (codes ":" ∷ texts.name_at c s ∷ codes "::" ∷ codes "(" ∷ (members_below c.names (entry_at c.meaning r s) n ++ (codes ")" ∷ [])))) h b1, entry-given c (m + length xs) r s h b1 (omega arith), ap (upto c n) (omega arith)))
 
 rows-read : (c : Named) (m r : ℕ) → HasNames c → r ≤ c.meaning.size → Reads (printed_token_lines m (row_lines c r)) (upto c c.meaning.size 0) (upto c c.meaning.size (r * c.meaning.size))
 unfolding row_lines

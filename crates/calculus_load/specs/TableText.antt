@@ -1,29 +1,16 @@
 -- The canonical text of a table.
-use Rattle.std.specs.Prelude.{ℕ, zero, suc, List, [], ◌++◌, slice_get, unwrap_or, codes, ◌==◌, if◌then◌else◌}
-use Rattle.std.specs.Int.{bit_at}
+use Rattle.std.specs.Prelude.{ℕ, List, [], ◌++◌, slice_get, unwrap_or, codes}
+use Rattle.qsr_lex.specs.Printed.{text_below, word_text, member_text}
 use Rattle.calculus_table.specs.Meaning.{converse_at, entry_at}
 use Rattle.calculus_table.specs.Calculus.{Named}
-
--- the texts f 0, .., f (n - 1), one after another
-unfoldable pub text_below : ℕ → (ℕ → List ℕ) → List ℕ
-text_below zero f = []
-text_below (suc n) f = text_below n f ++ f n
 
 -- the name of the base relation r
 abbrev pub name_at : Named → ℕ → List ℕ
 name_at c r = unwrap_or (slice_get c.names r) []
 
--- a name and a space
-abbrev pub word_text : Named → ℕ → List ℕ
-word_text c r = name_at c r ++ codes " "
-
--- the name of the base relation r and a space, where r is a member of a
-abbrev pub member_text : Named → ℕ → ℕ → List ℕ
-member_text c a r = if bit_at a r == 1 then word_text c r else []
-
 -- the names of all base relations
 abbrev pub names_text : Named → List ℕ
-names_text c = codes "names ( " ++ text_below c.meaning.size (word_text c) ++ codes ")\n"
+names_text c = codes "names ( " ++ text_below c.meaning.size (word_text c.names) ++ codes ")\n"
 
 -- the identity
 abbrev pub identity_text : Named → List ℕ
@@ -36,7 +23,7 @@ converse_text c r = name_at c r ++ codes " :: " ++ name_at c (converse_at c.mean
 -- the composition r;s
 abbrev pub entry_text : Named → ℕ → ℕ → List ℕ
 entry_text c r s =
-    name_at c r ++ codes " : " ++ name_at c s ++ codes " :: ( " ++ text_below c.meaning.size (member_text c (entry_at c.meaning r s)) ++ codes ")\n"
+    name_at c r ++ codes " : " ++ name_at c s ++ codes " :: ( " ++ text_below c.meaning.size (member_text c.names (entry_at c.meaning r s)) ++ codes ")\n"
 
 -- the compositions of r with each base relation
 abbrev pub row_text : Named → ℕ → List ℕ

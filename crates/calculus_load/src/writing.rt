@@ -1,6 +1,7 @@
 ghost use Rattle.std.specs.Prelude.{◌≡◌, ◌<◌, ◌++◌, codes, OnOk, IfOk};
 ghost use Rattle.std.specs.String.{string_bytes};
-ghost use Rattle.calculus_load.specs.TableText.{text_below, member_text, names_text, identity_text, converse_text, entry_text, row_text, table_text};
+ghost use Rattle.qsr_lex.specs.Printed.{text_below, member_text};
+ghost use Rattle.calculus_load.specs.TableText.{names_text, identity_text, converse_text, entry_text, row_text, table_text};
 ghost use Rattle.calculus_table.specs.Meaning.{converse_at, entry_at};
 
 use calculus_table::{Calculus, Compose, Memory, Rel};
@@ -60,7 +61,7 @@ fn push_converse(text: &mut String, c: &Calculus, r: u32) -> Result<(), AllocErr
 /// Appends the name of `r`, where it is a member of the set.
 fn push_member(text: &mut String, c: &Calculus, set: Rel, r: u32) -> Result<(), AllocError>
     requires { r < c.now.meaning.size }
-    ensures { OnOk result (string_bytes text.new ≡ string_bytes text.old ++ member_text c.now set r) }
+    ensures { OnOk result (string_bytes text.new ≡ string_bytes text.old ++ member_text c.now.names set r) }
 {
     if set.has(r) {
         write!(text, "{} ", c.name(r))?;

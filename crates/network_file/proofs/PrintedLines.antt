@@ -1,5 +1,5 @@
 -- The canonical text of a network is printed of lines of tokens.
-use Rattle.std.proofs.Common.{◌≡◌, ℕ, zero, suc, ◌^◌, ◌<◌, ◌≤◌, ◌==◌, Bool, true, false, cond, nat_lt, List, [], ◌∷◌, ◌++◌, length, map, take, refl, sym, ◌∙◌, ap, subst, arith, append_assoc, append-nil, slice_get, slice_index, unwrap_or, codes, decimal, ◌&&◌, ◌⊎◌, inl, inr}
+use Rattle.std.proofs.Common.{◌≡◌, ℕ, zero, suc, ◌^◌, ◌<◌, ◌≤◌, ◌==◌, Bool, true, false, cond, nat_lt, List, [], ◌∷◌, ◌++◌, length, map, refl, sym, ◌∙◌, ap, subst, arith, append_assoc, append-nil, slice_get, slice_index, unwrap_or, codes, decimal, ◌&&◌, ◌⊎◌, inl, inr}
 use Rattle.std.specs.Int.{bit_at}
 use Rattle.std.specs.List.{list_all, flat_map, AllByRecursion}
 use Rattle.std.proofs.lemmas.Bool.{and_parts, cases_lt, lt-ltb, ltb-true}
@@ -12,10 +12,11 @@ use Rattle.network_words.specs.Edge.{edge_at}
 use Rattle.network_words.specs.Network.{Network}
 use Rattle.network_words.specs.declared.TheConstants.{MAX_NODES}
 use Rattle.qsr_lex.specs.Names.{is_name}
-use Rattle.qsr_lex.specs.Printed.{is_token_text, are_tokens, spaced, printed_line, printed}
+use Rattle.qsr_lex.specs.Printed.{is_token_text, are_tokens, spaced, printed_line, printed, text_below, word_text}
 use Rattle.qsr_lex.proofs.PrintedNames.{IsPrintedName-from_test}
 use Rattle.qsr_lex.proofs.PrintedNumbers.{IsPrintedNumber-below}
-use Rattle.network_file.specs.NetworkText.{text_below, word_text, member_text, set_text, edge_line, later_line, row_text, network_text}
+use Rattle.qsr_lex.proofs.WrittenTexts.{spaces, members_below, text_below-members, text_below-names, spaced-more, spaced-close}
+use Rattle.network_file.specs.NetworkText.{set_text, edge_line, later_line, row_text, network_text}
 
 -- ---- the pairs of nodes in edge order
 
@@ -26,53 +27,6 @@ pairs_row i (suc j) = pairs_row i j ++ cond (nat_lt i j) ((i, j) ∷ []) []
 unfoldable pub pairs_below : ℕ → ℕ → List (ℕ × ℕ)
 pairs_below n zero = []
 pairs_below n (suc i) = pairs_below n i ++ pairs_row i n
-
--- ---- a name and a space, for each name
-
-abbrev pub with_space : List ℕ → List ℕ
-with_space w = w ++ 32 ∷ []
-
--- the names of the members of a below k
-unfoldable pub members_below : List (List ℕ) → ℕ → ℕ → List (List ℕ)
-members_below names a zero = []
-members_below names a (suc r) = members_below names a r ++ cond (bit_at a r == 1) (unwrap_or (slice_get names r) [] ∷ []) []
-
-if_member : (b : Bool) (w : List ℕ) → cond b (with_space w) [] ≡ flat_map with_space (cond b (w ∷ []) [])
-if_member true w = sym (append-nil (with_space w))
-if_member false w = refl
-
-text_below-members : (c : Named) (a k : ℕ) → text_below k (member_text c a) ≡ flat_map with_space (members_below c.names a k)
-unfolding text_below members_below
-text_below-members c a zero = refl
-text_below-members c a (suc r) =
-    ap (λ x. x ++ member_text c a r) (text_below-members c a r)
-    ∙ ap (λ x. flat_map with_space (members_below c.names a r) ++ x) (if_member (bit_at a r == 1) (unwrap_or (slice_get c.names r) []))
-    ∙ sym (flat_map-append with_space (members_below c.names a r) (cond (bit_at a r == 1) (unwrap_or (slice_get c.names r) [] ∷ []) []))
-
-text_below-names : (names : List (List ℕ)) (k : ℕ) → k ≤ length names → text_below k (word_text names) ≡ flat_map with_space (take k names)
-unfolding text_below
-text_below-names names zero h = refl
-text_below-names names (suc k) h =
-    ap (λ x. x ++ word_text names k) (text_below-names names k (omega arith))
-    ∙ ap (λ x. flat_map with_space (take k names) ++ x) (sym (append-nil (word_text names k)))
-    ∙ sym (flat_map-append with_space (take k names) (unwrap_or (slice_get names k) [] ∷ []))
-    ∙ ap (flat_map with_space) (sym (take-name names k (omega arith)))
-  where
-    take-name : (names : List (List ℕ)) (k : ℕ) → k < length names → take (suc k) names ≡ take k names ++ unwrap_or (slice_get names k) [] ∷ []
-    take-name [] k h = absurd (omega arith)
-    take-name (x ∷ xs) zero h = refl
-    take-name (x ∷ xs) (suc k) h = ap (λ ys. x ∷ ys) (take-name xs k (omega arith))
-
-spaced-cons : (w : List ℕ) (ws : List (List ℕ)) → spaced (w ∷ (ws ++ (41 ∷ []) ∷ [])) ≡ w ++ 32 ∷ spaced (ws ++ (41 ∷ []) ∷ [])
-spaced-cons w [] = refl
-spaced-cons w (v ∷ ws) = refl
-
--- names in front of a closing bracket
-spaced-close : (ws : List (List ℕ)) → spaced (ws ++ (41 ∷ []) ∷ []) ≡ flat_map with_space ws ++ 41 ∷ []
-spaced-close [] = refl
-spaced-close (w ∷ ws) =
-    spaced-cons w ws ∙ ap (λ x. w ++ 32 ∷ x) (spaced-close ws)
-    ∙ sym (ap (λ x. x ++ 41 ∷ []) (append_assoc w (32 ∷ []) (flat_map with_space ws)) ∙ append_assoc w (32 ∷ flat_map with_space ws) (41 ∷ []))
 
 -- ---- the lines
 
@@ -94,9 +48,9 @@ edge_line-printed c net p =
     let a = slice_index net.words (edge_at net.nodes p.0 p.1) in
     let ws = members_below c.names a c.meaning.size in
     let set : set_text c a ≡ 40 ∷ 32 ∷ spaced (ws ++ (41 ∷ []) ∷ []) =
-    ap (λ x. codes "( " ++ x ++ codes ")") (text_below-members c a c.meaning.size) ∙ ap (λ x. 40 ∷ 32 ∷ x) (sym (spaced-close ws)) in
+    ap (λ x. codes "( " ++ x ++ codes ")") (text_below-members c.names a c.meaning.size) ∙ ap (λ x. 40 ∷ 32 ∷ x) (sym (spaced-close ws)) in
     let line : spaced (edge_words c net p) ≡ decimal p.0 ++ 32 ∷ (decimal p.1 ++ 32 ∷ (40 ∷ 32 ∷ spaced (ws ++ (41 ∷ []) ∷ []))) =
-    ap (λ x. decimal p.0 ++ 32 ∷ (decimal p.1 ++ 32 ∷ x)) (spaced-cons (40 ∷ []) ws) in
+    ap (λ x. decimal p.0 ++ 32 ∷ (decimal p.1 ++ 32 ∷ x)) (spaced-more (40 ∷ []) ws (codes ")")) in
     ap (λ x. decimal p.0 ++ codes " " ++ decimal p.1 ++ codes " " ++ x ++ codes "\n") set
     ∙ shape (decimal p.0) (decimal p.1) (40 ∷ 32 ∷ spaced (ws ++ (41 ∷ []) ∷ []))
     ∙ ap (λ x. x ++ 10 ∷ []) (sym line)
@@ -132,9 +86,9 @@ edges-printed c net (p ∷ ps) =
 names-printed : (n : ℕ) (names : List (List ℕ)) → length names ≡ n →
     codes "names ( " ++ text_below n (word_text names) ++ codes ")\n" ≡ printed_line (names_words names)
 names-printed n names l =
-    ap (λ x. codes "names ( " ++ x ++ codes ")\n") (text_below-names names n (omega arith) ∙ ap (flat_map with_space) (take_all n names (omega arith)))
-    ∙ shape (flat_map with_space names)
-    ∙ ap (λ x. codes "names" ++ 32 ∷ x ++ 10 ∷ []) (sym (spaced-cons (40 ∷ []) names ∙ ap (λ x. 40 ∷ 32 ∷ x) (spaced-close names)))
+    ap (λ x. codes "names ( " ++ x ++ codes ")\n") (text_below-names names n (omega arith) ∙ ap spaces (take_all n names (omega arith)))
+    ∙ shape (spaces names)
+    ∙ ap (λ x. codes "names" ++ 32 ∷ x ++ 10 ∷ []) (sym (spaced-more (40 ∷ []) names (codes ")") ∙ ap (λ x. 40 ∷ 32 ∷ x) (spaced-close names)))
   where
     shape : (x : List ℕ) → codes "names ( " ++ x ++ codes ")\n" ≡ (codes "names" ++ 32 ∷ (40 ∷ 32 ∷ (x ++ 41 ∷ []))) ++ 10 ∷ []
     shape x = simp append_assoc

@@ -1,27 +1,14 @@
 -- The canonical text of a network.
-use Rattle.std.specs.Prelude.{ℕ, zero, suc, List, [], ◌++◌, length, nat_lt, ◌==◌, if◌then◌else◌, slice_get, slice_index, unwrap_or, codes}
-use Rattle.std.specs.Int.{bit_at}
+use Rattle.std.specs.Prelude.{ℕ, List, [], ◌++◌, length, nat_lt, ◌==◌, if◌then◌else◌, slice_index, codes}
 use Rattle.std.specs.Fmt.{decimal}
 use Rattle.calculus_table.specs.Calculus.{Named}
 use Rattle.network_words.specs.Edge.{edge_at}
 use Rattle.network_words.specs.Network.{Network}
-
--- the texts f 0, .., f (n - 1), one after another
-unfoldable pub text_below : ℕ → (ℕ → List ℕ) → List ℕ
-text_below zero f = []
-text_below (suc n) f = text_below n f ++ f n
-
--- a name and a space
-abbrev pub word_text : List (List ℕ) → ℕ → List ℕ
-word_text names k = unwrap_or (slice_get names k) [] ++ codes " "
-
--- the name of the base relation r and a space, where r is a member of a
-abbrev pub member_text : Named → ℕ → ℕ → List ℕ
-member_text c a r = if bit_at a r == 1 then word_text c.names r else []
+use Rattle.qsr_lex.specs.Printed.{text_below, word_text, member_text}
 
 -- a set in brackets: the names of its members in ascending order
 abbrev pub set_text : Named → ℕ → List ℕ
-set_text c a = codes "( " ++ text_below c.meaning.size (member_text c a) ++ codes ")"
+set_text c a = codes "( " ++ text_below c.meaning.size (member_text c.names a) ++ codes ")"
 
 -- the line of an edge: its nodes and its set
 abbrev pub edge_line : Named → Network → ℕ → ℕ → List ℕ

@@ -1,6 +1,7 @@
 ghost use Rattle.std.specs.Prelude.{◌≡◌, ◌≢◌, ◌<◌, [], ◌++◌, codes, OnOk, IfOk};
 ghost use Rattle.std.specs.String.{string_bytes};
-ghost use Rattle.network_file.specs.NetworkText.{word_text, member_text, set_text, edge_line, row_text, names_line, network_text};
+ghost use Rattle.qsr_lex.specs.Printed.{word_text, member_text};
+ghost use Rattle.network_file.specs.NetworkText.{set_text, edge_line, row_text, names_line, network_text};
 
 use calculus_table::{Calculus, Compose, Memory, Rel};
 use network_words::Net;
@@ -9,7 +10,7 @@ use std::alloc::{AllocError, Global};
 /// Appends the name of `r`, where it is a member of the set.
 fn push_member(text: &mut String, c: &Calculus, set: Rel, r: u32) -> Result<(), AllocError>
     requires { r < c.now.meaning.size }
-    ensures { OnOk result (string_bytes text.new ≡ string_bytes text.old ++ member_text c.now set r) }
+    ensures { OnOk result (string_bytes text.new ≡ string_bytes text.old ++ member_text c.now.names set r) }
 {
     if set.has(r) {
         write!(text, "{} ", c.name(r))?;

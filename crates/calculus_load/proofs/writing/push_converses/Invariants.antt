@@ -1,6 +1,7 @@
 use Rattle.std.proofs.Common.{◌≡◌, ◌++◌}
 use Rattle.std.specs.String.{string_bytes}
-use Rattle.calculus_load.specs.TableText.{text_below, converse_text}
+use Rattle.qsr_lex.specs.Printed.{text_below}
+use Rattle.calculus_load.specs.TableText.{converse_text}
 use Rattle.calculus_load.proofs.writing.push_converses.Given as goal
 
 abbrev pub invariant-loop-r : goal.invariant-loop-r

@@ -1,6 +1,7 @@
 use Rattle.std.proofs.Common.{◌≡◌, ◌++◌}
 use Rattle.std.specs.String.{string_bytes}
-use Rattle.calculus_load.specs.TableText.{text_below, entry_text}
+use Rattle.qsr_lex.specs.Printed.{text_below}
+use Rattle.calculus_load.specs.TableText.{entry_text}
 use Rattle.calculus_load.proofs.writing.push_row.Given as goal
 
 abbrev pub invariant-loop-s : goal.invariant-loop-s

@@ -1,6 +1,7 @@
 use Rattle.std.proofs.Common.{◌≡◌, ◌++◌}
 use Rattle.std.specs.String.{string_bytes}
-use Rattle.network_file.specs.NetworkText.{text_below, later_line}
+use Rattle.qsr_lex.specs.Printed.{text_below}
+use Rattle.network_file.specs.NetworkText.{later_line}
 use Rattle.network_file.proofs.writing.push_row.Given as goal
 
 abbrev pub invariant-loop-j : goal.invariant-loop-j

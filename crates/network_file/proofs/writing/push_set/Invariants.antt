@@ -1,7 +1,7 @@
 use Rattle.std.proofs.Common.{◌≡◌, ◌++◌, codes}
 use Rattle.std.specs.String.{string_bytes}
-use Rattle.network_file.specs.NetworkText.{text_below, member_text}
+use Rattle.qsr_lex.specs.Printed.{text_below, member_text}
 use Rattle.network_file.proofs.writing.push_set.Given as goal
 
 abbrev pub invariant-loop-r : goal.invariant-loop-r
-invariant-loop-r l = string_bytes l.text ≡ (string_bytes l.fn.text ++ codes "( ") ++ text_below l.r (member_text l.c l.set)
+invariant-loop-r l = string_bytes l.text ≡ (string_bytes l.fn.text ++ codes "( ") ++ text_below l.r (member_text l.c.names l.set)

@@ -1,0 +1,72 @@
+-- Texts that are written piece by piece, and names with a space behind each.
+use Rattle.std.proofs.Common.{◌≡◌, ℕ, zero, suc, ◌+◌, ◌<◌, ◌≤◌, ◌==◌, Bool, true, false, cond, List, [], ◌∷◌, ◌++◌, length, take, codes, slice_get, unwrap_or, refl, sym, ◌∙◌, ap, arith, add-one, append_assoc, append-nil}
+use Rattle.std.specs.Int.{bit_at}
+use Rattle.std.specs.List.{flat_map}
+use Rattle.std.proofs.lemmas.Grind.{flat_map-append}
+use Rattle.qsr_lex.specs.Printed.{spaced, text_below, word_text, member_text}
+
+text_below-none : (f : ℕ → List ℕ) → text_below 0 f ≡ []
+unfolding text_below
+text_below-none f = refl
+
+pub text_below-more : (n : ℕ) (f : ℕ → List ℕ) → text_below (n + 1) f ≡ text_below n f ++ f n
+unfolding text_below
+text_below-more n f = rw add-one refl
+
+-- one more text behind what was written
+pub more_written : (old now next : List ℕ) (n : ℕ) (f : ℕ → List ℕ) → now ≡ old ++ text_below n f → next ≡ now ++ f n → next ≡ old ++ text_below (n + 1) f
+more_written old now next n f e h = h ∙ ap (λ x. x ++ f n) e ∙ append_assoc old (text_below n f) (f n) ∙ ap (λ x. old ++ x) (sym (text_below-more n f))
+
+-- nothing written yet
+pub none_written : (old : List ℕ) (f : ℕ → List ℕ) → old ≡ old ++ text_below 0 f
+none_written old f = sym (ap (λ x. old ++ x) (text_below-none f) ∙ append-nil old)
+
+-- words, each with a space behind
+abbrev pub spaces : List (List ℕ) → List ℕ
+spaces words = flat_map (λ w. w ++ codes " ") words
+
+pub spaces-append : (xs ys : List (List ℕ)) → spaces (xs ++ ys) ≡ spaces xs ++ spaces ys
+spaces-append xs ys = flat_map-append (λ w. w ++ codes " ") xs ys
+
+-- the names of the members of a below n
+unfoldable pub members_below : List (List ℕ) → ℕ → ℕ → List (List ℕ)
+members_below names a zero = []
+members_below names a (suc r) = members_below names a r ++ cond (bit_at a r == 1) (unwrap_or (slice_get names r) [] ∷ []) []
+
+if_member : (b : Bool) (w : List ℕ) → cond b (w ++ codes " ") [] ≡ spaces (cond b (w ∷ []) [])
+if_member true w = sym (append-nil (w ++ codes " "))
+if_member false w = refl
+
+pub text_below-members : (names : List (List ℕ)) (a n : ℕ) → text_below n (member_text names a) ≡ spaces (members_below names a n)
+unfolding text_below members_below
+text_below-members names a zero = refl
+text_below-members names a (suc r) =
+    let w = unwrap_or (slice_get names r) [] in
+    ap (λ x. x ++ member_text names a r) (text_below-members names a r)
+    ∙ ap (λ x. spaces (members_below names a r) ++ x) (if_member (bit_at a r == 1) w)
+    ∙ sym (spaces-append (members_below names a r) (cond (bit_at a r == 1) (w ∷ []) []))
+
+take-name : (names : List (List ℕ)) (k : ℕ) → k < length names → take (suc k) names ≡ take k names ++ unwrap_or (slice_get names k) [] ∷ []
+take-name [] k h = absurd (omega arith)
+take-name (x ∷ xs) zero h = refl
+take-name (x ∷ xs) (suc k) h = ap (λ ys. x ∷ ys) (take-name xs k (omega arith))
+
+pub text_below-names : (names : List (List ℕ)) (n : ℕ) → n ≤ length names → text_below n (word_text names) ≡ spaces (take n names)
+unfolding text_below
+text_below-names names zero h = refl
+text_below-names names (suc k) h =
+    ap (λ x. x ++ word_text names k) (text_below-names names k (omega arith))
+    ∙ ap (λ x. spaces (take k names) ++ x) (sym (append-nil (word_text names k)))
+    ∙ sym (spaces-append (take k names) (unwrap_or (slice_get names k) [] ∷ []))
+    ∙ ap spaces (sym (take-name names k (omega arith)))
+
+-- words in front of a closing bracket
+pub spaced-more : (w : List ℕ) (ws : List (List ℕ)) (z : List ℕ) → spaced (w ∷ (ws ++ (z ∷ []))) ≡ w ++ 32 ∷ spaced (ws ++ (z ∷ []))
+spaced-more w [] z = refl
+spaced-more w (v ∷ ws) z = refl
+
+pub spaced-close : (ws : List (List ℕ)) → spaced (ws ++ (codes ")" ∷ [])) ≡ spaces ws ++ codes ")"
+spaced-close [] = refl
+spaced-close (w ∷ ws) =
+    spaced-more w ws (codes ")") ∙ ap (λ t. w ++ 32 ∷ t) (spaced-close ws)
+    ∙ sym (append_assoc w (codes " ") (spaces ws ++ codes ")")) ∙ sym (append_assoc (w ++ codes " ") (spaces ws) (codes ")"))
