@@ -121,6 +121,7 @@ fn behind_colons(
     ensures ok { IfOk result (λ statement. behind_colons (map string_bytes names.now) first words.entry ≡ Some statement) }
     ensures bounded { IfOk result (IsBoundedBy (length names.now)) }
     ensures fault { IfErr result (IsFaultIn (formed line (behind_colons (map string_bytes names.now) first words.entry))) }
+    ensures form { IfErr result (λ fault. fault ≡ LoadFault.Syntax line) }
 {
     let Some(second) = words.name() else {
         return Err(LoadFault::Syntax { line });
