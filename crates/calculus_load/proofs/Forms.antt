@@ -1,10 +1,10 @@
 -- A line with two colons behind its first name, and one with a single colon.
 use Rattle.std.proofs.Common.{◌≡◌, ℕ, cond, List, [], ◌∷◌, Option, Some, None, refl, sym, ap, ◌∙◌}
 use Rattle.qsr_lex.specs.Lexemes.{Lexeme}
-use Rattle.qsr_lex.specs.Words.{name_at, behind_kind, is_same_kind}
+use Rattle.qsr_lex.specs.Words.{◌>>=◌, name_at, behind_kind, is_same_kind}
 use Rattle.qsr_lex.specs.declared.tokens.TokenKind.{TokenKind}
 use Rattle.qsr_lex.specs.declared.tokens.TokenKind.TheVariants.{Word, Open, Close, Comma, Colon, Colons, Stop}
-use Rattle.calculus_load.specs.Statements.{◌>>=◌, behind_colons, converse_line, behind_colon, entry_line, or_else, statement_line}
+use Rattle.calculus_load.specs.Statements.{behind_colons, converse_line, behind_colon, entry_line, or_else, statement_line}
 use Rattle.calculus_table.specs.Names.{place_of}
 use Rattle.calculus_load.specs.declared.statement.Statement.{Statement}
 

@@ -1,12 +1,11 @@
 -- The canonical text of a table as lines of tokens with one space between.
 use Rattle.std.proofs.Common.{◌≡◌, ℕ, zero, suc, List, [], ◌∷◌, ◌++◌, codes, refl, sym, ap, ◌∙◌, append_assoc, append-nil}
-use Rattle.std.specs.List.{flat_map}
-use Rattle.std.proofs.lemmas.Grind.{flat_map-append}
-use Rattle.qsr_lex.specs.Printed.{spaced, printed_line, printed}
+use Rattle.qsr_lex.specs.Printed.{spaced, printed_line, printed, text_below, word_text}
 use Rattle.calculus_table.specs.Meaning.{converse_at, entry_at}
 use Rattle.calculus_table.specs.Calculus.{Named}
-use Rattle.named_sets.specs.Written.{text_below, word_text, set_words}
-use Rattle.named_sets.proofs.WrittenSets.{with_space, spaced-cons, spaced-close, set_text-spaced}
+use Rattle.named_sets.specs.Written.{set_words}
+use Rattle.qsr_lex.proofs.WrittenTexts.{spaces, spaces-append, spaced-more, spaced-close}
+use Rattle.named_sets.proofs.WrittenSets.{set_text-spaced}
 use Rattle.calculus_load.specs.TableText.{name_at, names_text, identity_text, converse_text, entry_text, row_text, table_text}
 
 -- f 0, .., f (n - 1)
@@ -41,12 +40,12 @@ printed-append : (xs ys : List (List (List ℕ))) → printed (xs ++ ys) ≡ pri
 printed-append [] ys = refl
 printed-append (x ∷ xs) ys = ap (λ t. printed_line x ++ t) (printed-append xs ys) ∙ sym (append_assoc (printed_line x) (printed xs) (printed ys))
 
-names-spaces : (c : Named) (n : ℕ) → text_below n (word_text c.names) ≡ flat_map with_space (listed n (name_at c))
+names-spaces : (c : Named) (n : ℕ) → text_below n (word_text c.names) ≡ spaces (listed n (name_at c))
 unfolding text_below listed
 names-spaces c zero = refl
 names-spaces c (suc n) =
-    ap (λ t. t ++ word_text c.names n) (names-spaces c n) ∙ ap (λ t. flat_map with_space (listed n (name_at c)) ++ t) (sym (append-nil (word_text c.names n)))
-    ∙ sym (flat_map-append with_space (listed n (name_at c)) (name_at c n ∷ []))
+    ap (λ t. t ++ word_text c.names n) (names-spaces c n) ∙ ap (λ t. spaces (listed n (name_at c)) ++ t) (sym (append-nil (word_text c.names n)))
+    ∙ sym (spaces-append (listed n (name_at c)) (name_at c n ∷ []))
 
 lines-printed : (n : ℕ) (text : ℕ → List ℕ) (words : ℕ → List (List ℕ)) → ((k : ℕ) → text k ≡ printed_line (words k)) → text_below n text ≡ printed (listed n words)
 unfolding text_below listed
@@ -59,9 +58,9 @@ names-line : (c : Named) → names_text c ≡ printed_line (names_words c)
 names-line c =
     let ws = listed c.meaning.size (name_at c) in
     ap (λ t. codes "names ( " ++ t ++ codes ")\n") (names-spaces c c.meaning.size)
-    ∙ ap (λ t. codes "names ( " ++ t) (sym (append_assoc (flat_map with_space ws) (codes ")") (codes "\n")))
+    ∙ ap (λ t. codes "names ( " ++ t) (sym (append_assoc (spaces ws) (codes ")") (codes "\n")))
     ∙ ap (λ t. codes "names ( " ++ (t ++ codes "\n")) (sym (spaced-close ws))
-    ∙ ap (λ t. codes "names " ++ (t ++ codes "\n")) (sym (spaced-cons (codes "(") ws))
+    ∙ ap (λ t. codes "names " ++ (t ++ codes "\n")) (sym (spaced-more (codes "(") ws (codes ")")))
 
 converse-line : (c : Named) (r : ℕ) → converse_text c r ≡ printed_line (converse_words c r)
 converse-line c r = simp append_assoc

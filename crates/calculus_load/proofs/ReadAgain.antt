@@ -4,7 +4,7 @@ use Rattle.std.specs.List.{list_all}
 use Rattle.std.proofs.lemmas.Nat.{mul-add-lt}
 use Rattle.qsr_lex.specs.Lexemes.{Lexeme}
 use Rattle.qsr_lex.specs.Names.{is_name}
-use Rattle.qsr_lex.specs.Words.{name_at, names_at, behind_kind, is_name_token, is_same_kind}
+use Rattle.qsr_lex.specs.Words.{name_at, names_at, behind_kind, is_name_token, is_same_kind, ◌>>=◌, at_end, ends_there, is_end_line}
 use Rattle.qsr_lex.specs.TextLines.{readable_text}
 use Rattle.qsr_lex.specs.TokenLines.{TokenLine, add_line, token_line, token_lines}
 use Rattle.qsr_lex.specs.Printed.{printed, is_token_text, are_tokens, lexeme_from, printed_token_lines, IsReadAgain}
@@ -22,7 +22,7 @@ use Rattle.named_sets.specs.Written.{members}
 use Rattle.named_sets.proofs.ReadSets.{set_of-members}
 use Rattle.named_sets.proofs.WrittenSets.{members-names, closed-tokens}
 use Rattle.calculus_load.specs.Names.{allowed_names}
-use Rattle.calculus_load.specs.Statements.{◌>>=◌, at_end, some_names, names_line, converse_line, behind_colons, entry_line, behind_colon, or_else, statement_line, ends_there, is_end_line}
+use Rattle.calculus_load.specs.Statements.{some_names, names_line, converse_line, behind_colons, entry_line, behind_colon, or_else, statement_line}
 use Rattle.calculus_load.specs.TableFile.{◌then◌, formed, known, said, stated, nothing_behind, statements, nothing_given, named, identified, from_identity, from_names, table_of}
 use Rattle.calculus_load.specs.TableText.{table_text}
 use Rattle.calculus_load.specs.TableText as texts

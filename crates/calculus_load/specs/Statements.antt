@@ -1,22 +1,13 @@
 -- The forms of the lines of a table file.
-use Rattle.std.specs.Prelude.{ℕ, ◌-◌, ◌^◌, ◌<◌, List, [], ◌∷◌, Bool, true, false, Option, Some, None, option_and_then, IfSome, codes}
+use Rattle.std.specs.Prelude.{ℕ, ◌-◌, ◌^◌, ◌<◌, List, [], ◌∷◌, Option, Some, None, IfSome, codes}
 use Rattle.qsr_lex.specs.Lexemes.{Lexeme}
-use Rattle.qsr_lex.specs.Words.{name_at, names_at, behind_kind, behind_word}
-use Rattle.qsr_lex.specs.declared.tokens.TokenKind.TheVariants.{Colon, Colons, Stop}
+use Rattle.qsr_lex.specs.Words.{name_at, names_at, behind_kind, behind_word, ◌>>=◌, at_end}
+use Rattle.qsr_lex.specs.declared.tokens.TokenKind.TheVariants.{Colon, Colons}
 use Rattle.calculus_table.specs.Rel.{IsWithin}
 use Rattle.calculus_table.specs.Names.{place_of}
 use Rattle.named_sets.specs.Named.{set_of}
 use Rattle.calculus_load.specs.declared.statement.Statement.{Statement}
 use Rattle.calculus_load.specs.declared.statement.Statement.TheVariants.{Converse, Entry}
-
-infixl 10 ◌>>=◌
-abbrev pub ◌>>=◌ : {A B : Type 0} → Option A → (A → Option B) → Option B
-o >>= f = option_and_then f o
-
--- this, where nothing stands behind it in the line
-abbrev pub at_end : {A : Type 0} → A → List Lexeme → Option A
-at_end a [] = Some a
-at_end a (x ∷ xs) = None
 
 -- these names, where there is one
 abbrev pub some_names : List (List ℕ) → Option (List (List ℕ))
@@ -59,13 +50,3 @@ statement_line names words = or_else (converse_line names words) (entry_line nam
 abbrev pub IsBoundedBy : ℕ → Statement → Type 0
 IsBoundedBy n (Converse a b) = IfSome a (λ a. a < n) × IfSome b (λ b. b < n)
 IsBoundedBy n (Entry a b set) = IfSome a (λ a. a < n) × IfSome b (λ b. b < n) × IfSome set (λ set. IsWithin set (2 ^ n - 1))
-
--- nothing stands behind what was found
-abbrev pub ends_there : Option (List Lexeme) → Bool
-ends_there (Some []) = true
-ends_there (Some (x ∷ xs)) = false
-ends_there None = false
-
--- `.` alone
-abbrev pub is_end_line : List Lexeme → Bool
-is_end_line words = ends_there (behind_kind Stop words)

@@ -3,13 +3,14 @@
 use Rattle.std.specs.Prelude.{◌≡◌, ℕ, ◌*◌, List, [], ◌∷◌, length, replicate, Bool, true, false, Option, Some, None, Result, Ok, Err, if◌then◌else◌}
 use Rattle.qsr_lex.specs.Lexemes.{Lexeme}
 use Rattle.qsr_lex.specs.TokenLines.{TokenLine}
+use Rattle.qsr_lex.specs.Words.{is_end_line}
 use Rattle.calculus_table.specs.Calculus.{Named}
 use Rattle.calculus_table.specs.TableFault.{IsFaultOf}
 use Rattle.calculus_load.specs.LinesToRead.{lines_to_read, end_place}
 use Rattle.calculus_load.specs.Given.{Given, give_converse, give_entry, complete}
 use Rattle.calculus_table.specs.Names.{place_of}
 use Rattle.calculus_load.specs.Names.{allowed_names}
-use Rattle.calculus_load.specs.Statements.{names_line, identity_line, statement_line, is_end_line}
+use Rattle.calculus_load.specs.Statements.{names_line, identity_line, statement_line}
 use Rattle.calculus_load.specs.declared.statement.Statement.{Statement}
 use Rattle.calculus_load.specs.declared.statement.Statement.TheVariants.{Converse, Entry}
 use Rattle.calculus_load.specs.declared.fault.LoadFault.{LoadFault}

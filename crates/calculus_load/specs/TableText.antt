@@ -3,7 +3,8 @@ use Rattle.std.specs.Prelude.{ℕ, List, ◌++◌, codes}
 use Rattle.calculus_table.specs.Meaning.{converse_at, entry_at}
 use Rattle.calculus_table.specs.Calculus.{Named}
 use Rattle.named_sets.specs.Named.{name_of}
-use Rattle.named_sets.specs.Written.{text_below, word_text, set_text}
+use Rattle.qsr_lex.specs.Printed.{text_below, word_text}
+use Rattle.named_sets.specs.Written.{set_text}
 
 -- the name of the base relation r
 abbrev pub name_at : Named → ℕ → List ℕ

@@ -2,14 +2,14 @@
 ghost use Rattle.std.specs.Prelude.{◌≡◌, ◌+◌, ◌++◌, ◌<◌, ◌≤◌, unwrap_or, map, length, All, IfOk, IfErr, IfSome, MatchResult, Ok, Err, Some, true, false};
 ghost use Rattle.std.specs.String.{string_bytes};
 ghost use Rattle.qsr_lex.specs.Names.{is_name};
-ghost use Rattle.qsr_lex.specs.Words.{names_at};
+ghost use Rattle.qsr_lex.specs.Words.{names_at, is_end_line};
 ghost use Rattle.qsr_lex.specs.Tokens.{AreApart};
 ghost use Rattle.qsr_lex.specs.TokenLines.{by_line, token_line};
 ghost use Rattle.calculus_load.specs.LinesToRead.{bad_lines, lines_to_read, end_place};
 ghost use Rattle.calculus_table.specs.Calculus.{NamesItsBases};
 ghost use Rattle.calculus_table.specs.declared.TheConstants.{MAX_BASES};
 ghost use Rattle.calculus_load.specs.Names.{allowed_names};
-ghost use Rattle.calculus_load.specs.Statements.{names_line, identity_line, behind_colons, behind_colon, statement_line, is_end_line, IsBoundedBy};
+ghost use Rattle.calculus_load.specs.Statements.{names_line, identity_line, behind_colons, behind_colon, statement_line, IsBoundedBy};
 ghost use Rattle.calculus_load.specs.TableFile.{formed, known, named, identified, stated, nothing_behind, statements, from_identity, from_names, given_by, table_of, IsFaultIn, IsLoadFaultOf, IsLineTaken};
 
 use crate::draft::Draft;
@@ -122,6 +122,7 @@ fn behind_colons(
     ensures ok { IfOk result (λ statement. behind_colons (map string_bytes names.now) first words.entry ≡ Some statement) }
     ensures bounded { IfOk result (IsBoundedBy (length names.now)) }
     ensures fault { IfErr result (IsFaultIn (formed line (behind_colons (map string_bytes names.now) first words.entry))) }
+    ensures form { IfErr result (λ fault. fault ≡ LoadFault.Syntax line) }
 {
     let Some(second) = words.name() else {
         return Err(LoadFault::Syntax { line });

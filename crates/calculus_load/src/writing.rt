@@ -1,6 +1,6 @@
 ghost use Rattle.std.specs.Prelude.{◌≡◌, ◌<◌, ◌++◌, codes, OnOk, IfOk};
 ghost use Rattle.std.specs.String.{string_bytes};
-ghost use Rattle.named_sets.specs.Written.{text_below};
+ghost use Rattle.qsr_lex.specs.Printed.{text_below};
 ghost use Rattle.calculus_load.specs.TableText.{names_text, identity_text, converse_text, entry_text, row_text, table_text};
 ghost use Rattle.calculus_table.specs.Meaning.{converse_at, entry_at};
 

@@ -1,20 +1,11 @@
 -- Sets of base relations as they are written.
-use Rattle.std.specs.Prelude.{◌≡◌, ℕ, zero, suc, List, [], ◌∷◌, ◌++◌, Some, codes, ◌==◌, if◌then◌else◌}
+use Rattle.std.specs.Prelude.{◌≡◌, ℕ, List, [], ◌∷◌, ◌++◌, Some, codes, ◌==◌, if◌then◌else◌}
 use Rattle.std.specs.Int.{bit_at}
-use Rattle.qsr_lex.specs.Printed.{spaced}
+use Rattle.qsr_lex.specs.Printed.{spaced, text_below, word_text}
 use Rattle.calculus_table.specs.Rel.{IsWithin}
 use Rattle.calculus_table.specs.Composition.{full_of}
 use Rattle.calculus_table.specs.Calculus.{Named, NamesItsBases}
-use Rattle.named_sets.specs.Named.{name_of, members_below, set_of}
-
--- the texts f 0, .., f (n - 1), one after another
-unfoldable pub text_below : ℕ → (ℕ → List ℕ) → List ℕ
-text_below zero f = []
-text_below (suc n) f = text_below n f ++ f n
-
--- the name at k, and a space
-abbrev pub word_text : List (List ℕ) → ℕ → List ℕ
-word_text names k = name_of names k ++ codes " "
+use Rattle.named_sets.specs.Named.{members_below, set_of}
 
 -- the name of the base relation r and a space, where r is a member of a
 abbrev pub member_text : List (List ℕ) → ℕ → ℕ → List ℕ

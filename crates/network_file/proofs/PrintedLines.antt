@@ -10,10 +10,11 @@ use Rattle.network_words.specs.Edge.{edge_at}
 use Rattle.network_words.specs.Network.{Network}
 use Rattle.network_words.specs.declared.TheConstants.{MAX_NODES}
 use Rattle.qsr_lex.specs.Names.{is_name}
-use Rattle.qsr_lex.specs.Printed.{is_token_text, are_tokens, spaced, printed_line, printed}
+use Rattle.qsr_lex.specs.Printed.{is_token_text, are_tokens, spaced, printed_line, printed, text_below, word_text}
 use Rattle.qsr_lex.proofs.PrintedNumbers.{IsPrintedNumber-below}
-use Rattle.named_sets.specs.Written.{text_below, word_text, members, set_words}
-use Rattle.named_sets.proofs.WrittenSets.{with_space, text_below-names, spaced-cons, spaced-close, set_text-spaced, members-names, closed-tokens}
+use Rattle.named_sets.specs.Written.{members, set_words}
+use Rattle.qsr_lex.proofs.WrittenTexts.{spaces, text_below-names, spaced-more, spaced-close}
+use Rattle.named_sets.proofs.WrittenSets.{set_text-spaced, members-names, closed-tokens}
 use Rattle.network_file.specs.NetworkText.{edge_line, later_line, row_text, network_text}
 
 -- ---- the pairs of nodes in edge order
@@ -78,9 +79,9 @@ edges-printed c net (p ∷ ps) =
 names-printed : (n : ℕ) (names : List (List ℕ)) → length names ≡ n →
     codes "names ( " ++ text_below n (word_text names) ++ codes ")\n" ≡ printed_line (names_words names)
 names-printed n names l =
-    ap (λ x. codes "names ( " ++ x ++ codes ")\n") (text_below-names names n (omega arith) ∙ ap (flat_map with_space) (take_all n names (omega arith)))
-    ∙ shape (flat_map with_space names)
-    ∙ ap (λ x. codes "names" ++ 32 ∷ x ++ 10 ∷ []) (sym (spaced-cons (40 ∷ []) names ∙ ap (λ x. 40 ∷ 32 ∷ x) (spaced-close names)))
+    ap (λ x. codes "names ( " ++ x ++ codes ")\n") (text_below-names names n (omega arith) ∙ ap spaces (take_all n names (omega arith)))
+    ∙ shape (spaces names)
+    ∙ ap (λ x. codes "names" ++ 32 ∷ x ++ 10 ∷ []) (sym (spaced-more (40 ∷ []) names (codes ")") ∙ ap (λ x. 40 ∷ 32 ∷ x) (spaced-close names)))
   where
     shape : (x : List ℕ) → codes "names ( " ++ x ++ codes ")\n" ≡ (codes "names" ++ 32 ∷ (40 ∷ 32 ∷ (x ++ 41 ∷ []))) ++ 10 ∷ []
     shape x = simp append_assoc

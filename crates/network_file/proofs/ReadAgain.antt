@@ -20,7 +20,7 @@ use Rattle.qsr_lex.specs.Names.{is_name}
 use Rattle.qsr_lex.specs.Numbers.{number_of}
 use Rattle.qsr_lex.specs.TextLines.{line_count, readable_text}
 use Rattle.qsr_lex.specs.TokenLines.{TokenLine, token_lines, token_line}
-use Rattle.qsr_lex.specs.Words.{names_at, is_same_kind}
+use Rattle.qsr_lex.specs.Words.{names_at, is_same_kind, at_end, ends_there, is_end_line}
 use Rattle.qsr_lex.specs.Printed.{lexeme_from, printed, printed_token_lines}
 use Rattle.qsr_lex.specs.declared.tokens.TokenKind.TheVariants.{Word, Stop}
 use Rattle.qsr_lex.proofs.CleanLines.{readable_text-all}
@@ -31,7 +31,7 @@ use Rattle.named_sets.specs.Named.{set_of}
 use Rattle.named_sets.specs.Written.{members, set_words}
 use Rattle.named_sets.proofs.ReadSets.{set_of-members}
 use Rattle.named_sets.proofs.WrittenSets.{members-names}
-use Rattle.network_file.specs.LineForms.{nodes_form, names_form, behind_names, exactly, at_end, is_named, as_node, node_at, FactWords, fact_form, is_nothing, is_end_form}
+use Rattle.network_file.specs.LineForms.{nodes_form, names_form, behind_names, exactly, is_named, as_node, node_at, FactWords, fact_form}
 use Rattle.network_file.specs.NetworkText.{network_text}
 use Rattle.network_file.specs.NetworkFile.{◌>>=◌, Said, end_at, nodes_within, nodes_line, names_here, names_line, node_by, node_of, differing, fact_line, closed, fact_lines, read_lines, read_network, IsNetworkOf, IsFileOf}
 use Rattle.network_file.specs.ReadAgain.{IsPrintable}
@@ -181,10 +181,10 @@ fact_line-printed c net line p h pair =
 
 -- ---- the lines of facts
 
-fact_no_end : (c : Named) (net : Network) (p : ℕ × ℕ) → p.0 < MAX_NODES → is_end_form (map lexeme_from (edge_words c net p)) ≡ false
+fact_no_end : (c : Named) (net : Network) (p : ℕ × ℕ) → p.0 < MAX_NODES → is_end_line (map lexeme_from (edge_words c net p)) ≡ false
 fact_no_end c net p few =
     let rest = map lexeme_from (decimal p.1 ∷ set_words c (slice_index net.words (edge_at net.nodes p.0 p.1))) in
-    ap (λ k. is_nothing (cond (is_same_kind k Stop) (Some rest) None)) (IsPrintedNumber-below p.0 (small p.0 (omega arith))).word
+    ap (λ k. ends_there (cond (is_same_kind k Stop) (Some rest) None)) (IsPrintedNumber-below p.0 (small p.0 (omega arith))).word
 
 fact_lines-printed : (c : Named) (net : Network) (k line : ℕ) (ps : List (ℕ × ℕ)) (facts : List Fact) → IsPrintable c net → AllByRecursion (IsPair net.nodes) ps →
     fact_lines c (Whole k) net.nodes net.names facts (printed_token_lines line (map (edge_words c net) ps ++ end_line)) ≡ Ok (facts ++ map (fact_at net) ps)

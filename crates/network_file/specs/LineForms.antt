@@ -1,20 +1,9 @@
 -- The forms of the lines of a network file.
-use Rattle.std.specs.Prelude.{ℕ, List, [], ◌∷◌, Bool, true, false, ◌&&◌, ◌||◌, ◌==◌, length, Option, Some, None, option_and_then, is_some, codes, if◌then◌else◌}
+use Rattle.std.specs.Prelude.{ℕ, List, [], ◌∷◌, Bool, true, false, ◌&&◌, ◌||◌, ◌==◌, length, Option, Some, None, is_some, codes, if◌then◌else◌}
 use Rattle.qsr_lex.specs.Lexemes.{Lexeme}
 use Rattle.qsr_lex.specs.Names.{is_name}
 use Rattle.qsr_lex.specs.Numbers.{number_of}
-use Rattle.qsr_lex.specs.Words.{word_at, names_at, behind_kind, behind_word}
-use Rattle.qsr_lex.specs.declared.tokens.TokenKind.TheVariants.{Stop}
-
--- the first part's value goes on into the second
-infixl 10 ◌>>=◌
-abbrev pub ◌>>=◌ : {A B : Type 0} → Option A → (A → Option B) → Option B
-o >>= f = option_and_then f o
-
--- the value, where no token is left
-abbrev pub at_end : {A : Type 0} → A → List Lexeme → Option A
-at_end a [] = Some a
-at_end a (x ∷ xs) = None
+use Rattle.qsr_lex.specs.Words.{word_at, names_at, behind_word, ◌>>=◌, at_end}
 
 -- `nodes N`: the number
 abbrev pub nodes_form : List Lexeme → Option ℕ
@@ -71,13 +60,3 @@ fact_form named words = do
   second ← node_at named first.1
   set ← names_at second.1
   at_end (record { first = first.0; second = second.0; set = set.0 }) set.1
-
--- nothing stands behind
-abbrev pub is_nothing : Option (List Lexeme) → Bool
-is_nothing None = false
-is_nothing (Some []) = true
-is_nothing (Some (x ∷ xs)) = false
-
--- `.`
-abbrev pub is_end_form : List Lexeme → Bool
-is_end_form words = is_nothing (behind_kind Stop words)

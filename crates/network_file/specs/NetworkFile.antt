@@ -14,8 +14,9 @@ use Rattle.network_words.specs.declared.fact.Fact.{Fact}
 use Rattle.qsr_lex.specs.Lexemes.{Lexeme}
 use Rattle.qsr_lex.specs.Numbers.{number_of}
 use Rattle.qsr_lex.specs.TokenLines.{TokenLine, token_lines}
+use Rattle.qsr_lex.specs.Words.{is_end_line}
 use Rattle.qsr_lex.specs.TextLines.{bad_line, line_count, readable_text}
-use Rattle.network_file.specs.LineForms.{nodes_form, names_form, behind_names, fact_form, is_named, is_end_form}
+use Rattle.network_file.specs.LineForms.{nodes_form, names_form, behind_names, fact_form, is_named}
 use Rattle.network_file.specs.declared.text_end.TextEnd.{TextEnd}
 use Rattle.network_file.specs.declared.text_end.TextEnd.TheVariants.{Whole, BadLine}
 use Rattle.network_file.specs.declared.fault.FileFault.{FileFault}
@@ -124,7 +125,7 @@ closed (Whole lines) facts [] = Ok facts
 abbrev pub fact_lines : Named → TextEnd → ℕ → List (List ℕ) → List Fact → List TokenLine → Result (List Fact) FileFault
 fact_lines c end n names facts [] = Err (end_fault end)
 fact_lines c end n names facts (l ∷ ls) =
-    if is_end_form l.words then closed end facts ls
+    if is_end_line l.words then closed end facts ls
     else (fact_line c n names l >>= λ fact. fact_lines c end n names (facts ++ fact ∷ []) ls)
 
 -- ---- the whole text
@@ -169,12 +170,12 @@ pub record ReadsFacts (c : Named) (end : TextEnd) (old new : Network) (lines : L
 -- after the line of a fact: the fact is read and met
 pub record ReadsLine (c : Named) (old new : Network) (l : TokenLine) : Type 0 where
   pub fact : Fact
-  pub no_end : is_end_form l.words ≡ false
+  pub no_end : is_end_line l.words ≡ false
   pub reads : fact_line c old.nodes old.names l ≡ Ok fact
   pub proper : IsProperPair old.nodes fact.i fact.j
   pub met : new ≡ record old { words = met_at c.meaning old.nodes old.words fact.i fact.j fact.rel }
 
 -- after the end line: nothing has changed
 pub record MeetsEnd (old new : Network) (l : TokenLine) : Type 0 where
-  pub is_end : is_end_form l.words ≡ true
+  pub is_end : is_end_line l.words ≡ true
   pub kept : new ≡ old

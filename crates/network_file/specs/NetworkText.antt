@@ -4,7 +4,8 @@ use Rattle.std.specs.Fmt.{decimal}
 use Rattle.calculus_table.specs.Calculus.{Named}
 use Rattle.network_words.specs.Edge.{edge_at}
 use Rattle.network_words.specs.Network.{Network}
-use Rattle.named_sets.specs.Written.{text_below, word_text, set_text}
+use Rattle.qsr_lex.specs.Printed.{text_below, word_text}
+use Rattle.named_sets.specs.Written.{set_text}
 
 -- the line of an edge: its nodes and its set
 abbrev pub edge_line : Named → Network → ℕ → ℕ → List ℕ

@@ -6,7 +6,8 @@ ghost use Rattle.network_words.specs.Edge.{IsProperPair};
 ghost use Rattle.network_words.specs.Facts.{IsNetOf};
 ghost use Rattle.network_words.specs.declared.fact.Fact.{Fact};
 ghost use Rattle.qsr_lex.specs.TokenLines.{token_line};
-ghost use Rattle.network_file.specs.LineForms.{is_named, is_end_form};
+ghost use Rattle.qsr_lex.specs.Words.{is_end_line};
+ghost use Rattle.network_file.specs.LineForms.{is_named};
 ghost use Rattle.network_file.specs.NetworkFile.{FailsWith, node_of, fact_line, closed, fact_lines, ReadsLine, ReadsFacts, MeetsEnd};
 
 use crate::fault::{FileFault, form_fault};
@@ -75,7 +76,7 @@ fn read_line(
     ensures ok { IfOk result (λ is_end. MatchBool is_end
         (MeetsEnd net.old net.new (token_line line.old.number line.old.words))
         (ReadsLine c.now net.old net.new (token_line line.old.number line.old.words))) }
-    ensures form { IfErr result (λ _. is_end_form line.old.words ≡ false) }
+    ensures form { IfErr result (λ _. is_end_line line.old.words ≡ false) }
     ensures fault { IfErr result (FailsWith (fact_line c.now net.old.nodes net.old.names (token_line line.old.number line.old.words))) }
 {
     if line.words.take_kind(TokenKind::Stop) {

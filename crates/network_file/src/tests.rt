@@ -91,6 +91,13 @@ fn facts_are_met(rt: HostRuntime) -> Result<(), Fail> {
     )?;
     reads(&rt, alloc, &c, b"nodes 2\n0 1 ( )\n.\n", 2, &[0])?;
     reads(&rt, alloc, &c, b"nodes 2\n0 1 ( < < )\n.\n", 2, &[1])?;
+    Ok(())
+}
+
+#[test]
+fn names_comments_and_loose_lines_are_read(rt: HostRuntime) -> Result<(), Fail> {
+    let alloc = rt.alloc();
+    let c = points(alloc)?;
     reads(&rt, alloc, &c, b"nodes 002\r\n00 01(<)\r\n.\r\n", 2, &[1])?;
     reads(
         &rt,

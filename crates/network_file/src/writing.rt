@@ -1,6 +1,6 @@
 ghost use Rattle.std.specs.Prelude.{◌≡◌, ◌≢◌, ◌<◌, [], ◌++◌, codes, OnOk, IfOk};
 ghost use Rattle.std.specs.String.{string_bytes};
-ghost use Rattle.named_sets.specs.Written.{word_text};
+ghost use Rattle.qsr_lex.specs.Printed.{word_text};
 ghost use Rattle.network_file.specs.NetworkText.{edge_line, row_text, names_line, network_text};
 
 use calculus_table::{Calculus, Memory};

@@ -1,5 +1,5 @@
 -- Texts as they are printed: one space between tokens, and an LF at the end of each line.
-use Rattle.std.specs.Prelude.{◌≡◌, ℕ, ◌+◌, List, [], ◌∷◌, ◌++◌, Bool, true, false, ◌&&◌, ◌||◌, ◌==◌, nat_le, length, map, decimal, Some, None}
+use Rattle.std.specs.Prelude.{◌≡◌, ℕ, zero, suc, ◌+◌, List, [], ◌∷◌, ◌++◌, Bool, true, false, ◌&&◌, ◌||◌, ◌==◌, nat_le, length, map, decimal, slice_get, unwrap_or, codes, Some, None}
 use Rattle.std.specs.List.{list_all, flat_map}
 use Rattle.qsr_lex.specs.Bytes.{is_allowed, is_mark, is_word_byte}
 use Rattle.qsr_lex.specs.Lexemes.{Lexeme, kind_of}
@@ -44,6 +44,15 @@ printed_line words = spaced words ++ 10 ∷ []
 -- lines of tokens
 abbrev pub printed : List (List (List ℕ)) → List ℕ
 printed text = flat_map printed_line text
+
+-- the texts f 0, .., f (n - 1), one after another
+unfoldable pub text_below : ℕ → (ℕ → List ℕ) → List ℕ
+text_below zero f = []
+text_below (suc n) f = text_below n f ++ f n
+
+-- the name at this place, and a space
+abbrev pub word_text : List (List ℕ) → ℕ → List ℕ
+word_text names k = unwrap_or (slice_get names k) [] ++ codes " "
 
 -- the lines of tokens that have any, where the first line has the number n
 abbrev pub printed_token_lines : ℕ → List (List (List ℕ)) → List TokenLine

@@ -60,3 +60,23 @@ names_at xs = option_and_then names_before_close (behind_kind Open xs)
 abbrev pub begins_with : List ℕ → List TokenLine → Bool
 begins_with text [] = false
 begins_with text (l ∷ ls) = is_some (behind_word text l.words)
+
+-- what is found first goes on into the second
+infixl 10 ◌>>=◌
+abbrev pub ◌>>=◌ : {A B : Type 0} → Option A → (A → Option B) → Option B
+o >>= f = option_and_then f o
+
+-- the value, where no token is left
+abbrev pub at_end : {A : Type 0} → A → List Lexeme → Option A
+at_end a [] = Some a
+at_end a (x ∷ xs) = None
+
+-- nothing stands behind what was found
+abbrev pub ends_there : Option (List Lexeme) → Bool
+ends_there (Some []) = true
+ends_there (Some (x ∷ xs)) = false
+ends_there None = false
+
+-- `.` alone
+abbrev pub is_end_line : List Lexeme → Bool
+is_end_line words = ends_there (behind_kind Stop words)

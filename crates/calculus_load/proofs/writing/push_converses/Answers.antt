@@ -1,6 +1,6 @@
 use Rattle.std.specs.String.{string_bytes}
 use Rattle.calculus_load.specs.TableText.{converse_text}
-use Rattle.named_sets.proofs.Texts.{none_written, more_written}
+use Rattle.qsr_lex.proofs.WrittenTexts.{none_written, more_written}
 use Rattle.calculus_load.proofs.writing.push_converses.Goals as goal
 
 pub loop-r-init : goal.loop-r-init

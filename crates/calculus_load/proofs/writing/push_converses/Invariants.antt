@@ -1,6 +1,6 @@
 use Rattle.std.proofs.Common.{◌≡◌, ◌++◌}
 use Rattle.std.specs.String.{string_bytes}
-use Rattle.named_sets.specs.Written.{text_below}
+use Rattle.qsr_lex.specs.Printed.{text_below}
 use Rattle.calculus_load.specs.TableText.{converse_text}
 use Rattle.calculus_load.proofs.writing.push_converses.Given as goal
 

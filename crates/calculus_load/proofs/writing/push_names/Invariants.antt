@@ -1,6 +1,6 @@
 use Rattle.std.proofs.Common.{◌≡◌, ◌++◌, codes}
 use Rattle.std.specs.String.{string_bytes}
-use Rattle.named_sets.specs.Written.{text_below, word_text}
+use Rattle.qsr_lex.specs.Printed.{text_below, word_text}
 use Rattle.calculus_load.proofs.writing.push_names.Given as goal
 
 abbrev pub invariant-loop-r : goal.invariant-loop-r

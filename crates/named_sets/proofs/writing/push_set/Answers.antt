@@ -1,7 +1,8 @@
 use Rattle.std.proofs.Common.{◌≡◌, ◌++◌, ◌∙◌, ap, append_assoc, codes, arith}
 use Rattle.std.specs.String.{string_bytes}
-use Rattle.named_sets.specs.Written.{text_below, member_text}
-use Rattle.named_sets.proofs.Texts.{none_written, more_written}
+use Rattle.qsr_lex.specs.Printed.{text_below}
+use Rattle.named_sets.specs.Written.{member_text}
+use Rattle.qsr_lex.proofs.WrittenTexts.{none_written, more_written}
 use Rattle.named_sets.proofs.writing.push_set.Goals as goal
 
 pub loop-r-init : goal.loop-r-init

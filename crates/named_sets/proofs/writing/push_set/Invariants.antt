@@ -1,6 +1,7 @@
 use Rattle.std.proofs.Common.{◌≡◌, ◌++◌, codes}
 use Rattle.std.specs.String.{string_bytes}
-use Rattle.named_sets.specs.Written.{text_below, member_text}
+use Rattle.qsr_lex.specs.Printed.{text_below}
+use Rattle.named_sets.specs.Written.{member_text}
 use Rattle.named_sets.proofs.writing.push_set.Given as goal
 
 abbrev pub invariant-loop-r : goal.invariant-loop-r

@@ -1,7 +1,7 @@
 use Rattle.std.proofs.Common.{◌++◌, ◌∙◌, codes}
 use Rattle.std.specs.String.{string_bytes}
-use Rattle.named_sets.specs.Written.{word_text}
-use Rattle.named_sets.proofs.Texts.{none_written, more_written}
+use Rattle.qsr_lex.specs.Printed.{word_text}
+use Rattle.qsr_lex.proofs.WrittenTexts.{none_written, more_written}
 use Rattle.network_file.proofs.writing.push_names.Goals as goal
 
 pub loop-node-init : goal.loop-node-init

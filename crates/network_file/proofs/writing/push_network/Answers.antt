@@ -2,7 +2,7 @@ use Rattle.std.proofs.Common.{◌≡◌, ◌++◌, ◌∙◌, ap, codes}
 use Rattle.std.specs.Fmt.{decimal}
 use Rattle.std.specs.String.{string_bytes}
 use Rattle.network_file.specs.NetworkText.{row_text, names_line}
-use Rattle.named_sets.proofs.Texts.{none_written, more_written}
+use Rattle.qsr_lex.proofs.WrittenTexts.{none_written, more_written}
 use Rattle.network_file.proofs.Texts.{header_written}
 use Rattle.network_file.proofs.writing.push_network.Goals as goal
 

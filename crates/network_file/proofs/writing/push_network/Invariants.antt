@@ -1,7 +1,7 @@
 use Rattle.std.proofs.Common.{◌≡◌, ◌++◌, codes}
 use Rattle.std.specs.Fmt.{decimal}
 use Rattle.std.specs.String.{string_bytes}
-use Rattle.named_sets.specs.Written.{text_below}
+use Rattle.qsr_lex.specs.Printed.{text_below}
 use Rattle.network_file.specs.NetworkText.{row_text, names_line}
 use Rattle.network_file.proofs.writing.push_network.Given as goal
 

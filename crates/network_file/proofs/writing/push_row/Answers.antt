@@ -2,7 +2,7 @@ use Rattle.std.proofs.Common.{◌+◌, ◌++◌, [], ◌∙◌, ap, sym, arith, 
 use Rattle.std.specs.String.{string_bytes}
 use Rattle.std.proofs.lemmas.Bool.{le-ltb, lt-ltb}
 use Rattle.network_file.specs.NetworkText.{later_line, edge_line}
-use Rattle.named_sets.proofs.Texts.{empty_written, more_written}
+use Rattle.qsr_lex.proofs.WrittenTexts.{empty_written, more_written}
 use Rattle.network_file.proofs.writing.push_row.Goals as goal
 
 pub loop-j-init : goal.loop-j-init

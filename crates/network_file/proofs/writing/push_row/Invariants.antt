@@ -1,6 +1,6 @@
 use Rattle.std.proofs.Common.{◌≡◌, ◌++◌}
 use Rattle.std.specs.String.{string_bytes}
-use Rattle.named_sets.specs.Written.{text_below}
+use Rattle.qsr_lex.specs.Printed.{text_below}
 use Rattle.network_file.specs.NetworkText.{later_line}
 use Rattle.network_file.proofs.writing.push_row.Given as goal
 
