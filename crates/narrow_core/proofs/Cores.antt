@@ -3,6 +3,7 @@ use Rattle.std.proofs.Common.{◌≡◌, ◌≢◌, ℕ, zero, suc, ◌+◌, ◌
 use Rattle.std.specs.Prelude.{bit_and, slice_get, slice_index, slice_set, IsTrue}
 use Rattle.std.specs.List.{All, sum_by}
 use Rattle.std.proofs.lemmas.List.{length-set}
+use Rattle.std.proofs.lemmas.List.Elements.{All-append, All-push, All-nil}
 use Rattle.std.proofs.lemmas.List.Sums.{sum_by-set, sum_by-append}
 use Rattle.std.proofs.lemmas.Option.{slice_get_within, get_or_from_slice_get}
 use Rattle.calculus_table.specs.Rel.{IsWithin}
@@ -17,8 +18,7 @@ use Rattle.narrow_core.specs.declared.event.Event.TheVariants.{Assert, Read, Nar
 use Rattle.narrow_core.specs.Actor.{ActorState, IsLiveAt, EachLive, live_weight, fresh, seeing, stating, giving, joining, spent, met_words}
 use Rattle.narrow_core.specs.Machine.{CoreState, AreSets, IsProperFact, IsProperActor, AreWeighed, IsCore, opened}
 use Rattle.narrow_core.specs.Event.{edge_between, IsAllowed, IsStep, HasLive, MayAssert, MayRead, MayNarrow, MaySplit, MayJoin, Asserts, Reads, Narrows, Splits, Joins}
-use Rattle.narrow_core.proofs.Places.{get-set, get-set_same, get-set_other, get-last, get-more, All-more, All-none}
-use Rattle.std.proofs.lemmas.List.Elements.{All-append}
+use Rattle.narrow_core.proofs.Places.{get-set, get-set_same, get-set_other, get-last}
 use Rattle.narrow_core.proofs.Sights.{length-seen, seen-within, length-met, met-within_l, AreSets-less}
 
 -- ---- two readings of one place
@@ -130,13 +130,13 @@ proper-seeing : (n full e x : ℕ) (a : ActorState) → IsProperActor n full a �
 proper-seeing n full e x a p = record { seen = AreSets-less n full a.seen _ p.seen (length-seen a.seen e x) (seen-within a.seen e x); facts = p.facts }
 
 proper-stating : (n full : ℕ) (fact : Fact) (a : ActorState) → IsProperActor n full a → IsProperFact n full fact → IsProperActor n full (stating fact a)
-proper-stating n full fact a p f = record { seen = p.seen; facts = All-more (IsProperFact n full) a.mine fact p.facts f }
+proper-stating n full fact a p f = record { seen = p.seen; facts = All-push (IsProperFact n full) a.mine fact p.facts f }
 
 proper-giving : (n full left : ℕ) (a : ActorState) → IsProperActor n full a → IsProperActor n full (giving left a)
 proper-giving n full left a p = record { seen = p.seen; facts = p.facts }
 
 proper-fresh : (n full weight : ℕ) (seen : List ℕ) → AreSets n full seen → IsProperActor n full (fresh weight seen)
-proper-fresh n full weight seen p = record { seen = p; facts = All-none (IsProperFact n full) }
+proper-fresh n full weight seen p = record { seen = p; facts = All-nil (IsProperFact n full) }
 
 proper-joining : (n full : ℕ) (a b : ActorState) → IsProperActor n full a → IsProperActor n full b → IsProperActor n full (joining a b)
 proper-joining n full a b p q = record {

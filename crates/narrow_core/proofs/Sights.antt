@@ -4,6 +4,7 @@ use Rattle.std.specs.Prelude.{bit_and, slice_index, slice_set}
 use Rattle.std.specs.List.{All, zip}
 use Rattle.std.proofs.lemmas.Bool.{cases_lt, lt-ltb, le-ltb}
 use Rattle.std.proofs.lemmas.List.{length-set, get_or-set_same, get_or-set_other}
+use Rattle.std.proofs.lemmas.List.Elements.{All-weaker}
 use Rattle.calculus_table.specs.Rel.{Has, IsWithin}
 use Rattle.calculus_table.specs.Meaning.{Meaning}
 use Rattle.calculus_table.specs.Composition.{full_of, composition, converse}
@@ -19,12 +20,11 @@ use Rattle.narrow_core.specs.Actor.{met_words}
 use Rattle.narrow_core.specs.Machine.{AreSets, IsProperFact}
 use Rattle.narrow_core.specs.Event.{edge_between}
 use Rattle.narrow_core.specs.Bound.{IsWithinFact}
-use Rattle.narrow_core.proofs.Places.{All-weaken}
 
 -- ---- facts
 
 pub facts-mono : (m : Meaning) (n : ℕ) (xs ys : List ℕ) (facts : List Fact) → AreWithin xs ys → All (IsWithinFact m n ys) facts → All (IsWithinFact m n xs) facts
-facts-mono m n xs ys facts w = All-weaken (IsWithinFact m n ys) (IsWithinFact m n xs) facts (λ f h. IsWithin-trans _ _ _ (set_at-mono m n xs ys f.i f.j w) h)
+facts-mono m n xs ys facts w = All-weaker (IsWithinFact m n ys) (IsWithinFact m n xs) (λ f h. IsWithin-trans _ _ _ (set_at-mono m n xs ys f.i f.j w) h) facts
 
 -- ---- the edge between two nodes
 
