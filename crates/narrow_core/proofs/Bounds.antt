@@ -1,7 +1,7 @@
 -- Every allowed event keeps the bound.
-use Rattle.std.proofs.Common.{◌≡◌, ◌≢◌, ℕ, zero, suc, ◌+◌, ◌-◌, ◌<◌, ◌≤◌, Bool, true, false, List, [], ◌∷◌, ◌++◌, length, set, refl, sym, ◌∙◌, ap, subst, arith, ◌⊎◌, inl, inr, Some, None}
+use Rattle.std.proofs.Common.{◌≡◌, ◌≢◌, ℕ, ◌<◌, List, [], ◌∷◌, ◌++◌, length, set, refl, sym, ◌∙◌, subst, arith, inl, inr, Some}
 use Rattle.std.specs.Prelude.{bit_and, slice_get, slice_index, slice_set, IsTrue}
-use Rattle.std.specs.List.{All, sum_by}
+use Rattle.std.specs.List.{All}
 use Rattle.std.proofs.lemmas.Bool.{cases_eq}
 use Rattle.std.proofs.lemmas.List.Elements.{All-append, All-push, All-nil}
 use Rattle.std.proofs.lemmas.Option.{slice_get_within}
@@ -11,17 +11,17 @@ use Rattle.calculus_table.specs.Composition.{full_of, composition}
 use Rattle.calculus_table.specs.Calculus.{IsCalculus}
 use Rattle.calculus_table.proofs.Sets.{IsWithin-trans, IsWithin-meet_r}
 use Rattle.network_words.specs.declared.fact.Fact.{Fact}
-use Rattle.network_words.specs.Edge.{edge_count, IsProperPair, IsProperTriple}
-use Rattle.network_words.specs.Network.{Network, AreWithin, IsNetwork, met_at, set_at}
-use Rattle.network_words.specs.Closure.{IsClosed, IsClosure}
-use Rattle.network_words.proofs.Networks.{AreWithin-refl, AreWithin-trans, length-met_at, met_at-within, met_at-keeps, set_at-met_at, narrow-keeps, IsClosure-between}
+use Rattle.network_words.specs.Edge.{edge_count, IsProperTriple}
+use Rattle.network_words.specs.Network.{AreWithin, IsNetwork, met_at, set_at}
+use Rattle.network_words.specs.Closure.{IsClosed}
+use Rattle.network_words.proofs.Networks.{AreWithin-refl, AreWithin-trans, met_at-within, met_at-keeps, set_at-met_at, narrow-keeps}
 use Rattle.narrow_core.specs.declared.event.Event.{Event}
 use Rattle.narrow_core.specs.declared.event.Event.TheVariants.{Assert, Read, Narrow, Split, Join}
 use Rattle.narrow_core.specs.Actor.{ActorState, IsLiveAt, EachLive, fresh, seeing, stating, giving, joining, spent, met_words}
-use Rattle.narrow_core.specs.Machine.{CoreState, AreSets, IsProperFact, IsProperActor, AreWeighed, IsCore, opened}
-use Rattle.narrow_core.specs.Event.{edge_between, IsAllowed, IsStep, HasLive, MayAssert, MayRead, MayNarrow, MaySplit, MayJoin, Asserts, Reads, Narrows, Splits, Joins}
-use Rattle.narrow_core.specs.Bound.{IsWithinFact, IsWithinActor, HasSeenWithin, IsCandidate, AreWordsWithin, Bound}
-use Rattle.narrow_core.proofs.Places.{get-set, get-set_same, get-set_other, get-more, All-last, All-left, All-right}
+use Rattle.narrow_core.specs.Machine.{CoreState, IsProperFact, IsCore}
+use Rattle.narrow_core.specs.Event.{edge_between, IsAllowed, IsStep}
+use Rattle.narrow_core.specs.Bound.{IsWithinFact, IsWithinActor, HasSeenWithin, IsCandidate, Bound}
+use Rattle.narrow_core.proofs.Places.{get-set_same, get-set_other, get-more, All-last, All-left, All-right}
 use Rattle.narrow_core.proofs.Sights.{facts-mono, edge_between-lt, set_at-edge, seen-within, seen-keeps, seen-edge, met-within_l, met-within_r, met-keeps, AreSets-network}
 use Rattle.narrow_core.proofs.Cores.{same_actor, live_here, live-set, live-more, weights-same, weights-split, weights-join}
 

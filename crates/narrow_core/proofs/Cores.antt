@@ -1,24 +1,21 @@
 -- What every machine keeps: an allowed event leaves sets for each edge, proper facts, and the sum of the weights.
-use Rattle.std.proofs.Common.{◌≡◌, ◌≢◌, ℕ, zero, suc, ◌+◌, ◌-◌, ◌<◌, ◌≤◌, Bool, true, false, cond, List, [], ◌∷◌, ◌++◌, length, get_or, set, refl, sym, ◌∙◌, ap, subst, arith, ◌⊎◌, inl, inr, Some, None, length-append}
-use Rattle.std.specs.Prelude.{bit_and, slice_get, slice_index, slice_set, IsTrue}
-use Rattle.std.specs.List.{All, sum_by}
-use Rattle.std.proofs.lemmas.List.{length-set}
+use Rattle.std.proofs.Common.{◌≡◌, ◌≢◌, ℕ, ◌+◌, ◌-◌, ◌<◌, ◌≤◌, cond, List, [], ◌∷◌, ◌++◌, length, set, refl, sym, ◌∙◌, ap, subst, arith, inl, inr, Some}
+use Rattle.std.specs.Prelude.{slice_get, slice_index, IsTrue}
+use Rattle.std.specs.List.{sum_by}
 use Rattle.std.proofs.lemmas.List.Elements.{All-append, All-push, All-nil}
 use Rattle.std.proofs.lemmas.List.Sums.{sum_by-set, sum_by-append}
 use Rattle.std.proofs.lemmas.Option.{slice_get_within, get_or_from_slice_get}
-use Rattle.calculus_table.specs.Rel.{IsWithin}
 use Rattle.calculus_table.specs.Meaning.{Meaning}
-use Rattle.calculus_table.specs.Composition.{full_of, composition}
+use Rattle.calculus_table.specs.Composition.{composition}
 use Rattle.network_words.specs.declared.fact.Fact.{Fact}
-use Rattle.network_words.specs.Edge.{edge_count}
-use Rattle.network_words.specs.Network.{Network, AreWithin, IsNetwork, met_at, set_at}
-use Rattle.network_words.proofs.Networks.{AreWithin-refl, AreWithin-trans, length-met_at, met_at-within}
+use Rattle.network_words.specs.Network.{AreWithin, set_at}
+use Rattle.network_words.proofs.Networks.{AreWithin-refl, length-met_at, met_at-within}
 use Rattle.narrow_core.specs.declared.event.Event.{Event}
 use Rattle.narrow_core.specs.declared.event.Event.TheVariants.{Assert, Read, Narrow, Split, Join}
-use Rattle.narrow_core.specs.Actor.{ActorState, IsLiveAt, EachLive, live_weight, fresh, seeing, stating, giving, joining, spent, met_words}
-use Rattle.narrow_core.specs.Machine.{CoreState, AreSets, IsProperFact, IsProperActor, AreWeighed, IsCore, opened}
-use Rattle.narrow_core.specs.Event.{edge_between, IsAllowed, IsStep, HasLive, MayAssert, MayRead, MayNarrow, MaySplit, MayJoin, Asserts, Reads, Narrows, Splits, Joins}
-use Rattle.narrow_core.proofs.Places.{get-set, get-set_same, get-set_other, get-last}
+use Rattle.narrow_core.specs.Actor.{ActorState, IsLiveAt, EachLive, live_weight, fresh, seeing, stating, giving, joining, spent}
+use Rattle.narrow_core.specs.Machine.{CoreState, AreSets, IsProperFact, IsProperActor, AreWeighed, IsCore}
+use Rattle.narrow_core.specs.Event.{edge_between, IsAllowed, IsStep, HasLive, MayAssert, MaySplit, MayJoin, Asserts, Reads, Narrows, Splits, Joins}
+use Rattle.narrow_core.proofs.Places.{get-set, get-set_other, get-last}
 use Rattle.narrow_core.proofs.Sights.{length-seen, seen-within, length-met, met-within_l, AreSets-less}
 
 -- ---- two readings of one place

@@ -1,29 +1,28 @@
 -- Runs: what every run keeps, how one goes on by a step, and what an actor with the whole weight knows.
-use Rattle.std.proofs.Common.{◌≡◌, ◌≢◌, ℕ, zero, suc, ◌+◌, ◌-◌, ◌<◌, ◌≤◌, Bool, true, false, List, [], ◌∷◌, ◌++◌, length, take, set, refl, sym, ◌∙◌, ap, subst, arith, ◌⊎◌, inl, inr, Some, None, length-append}
-use Rattle.std.specs.Prelude.{bit_and, slice_get, slice_index, slice_set, IsTrue}
-use Rattle.std.specs.List.{All, sum_by}
+use Rattle.std.proofs.Common.{◌≡◌, ℕ, zero, suc, ◌+◌, ◌<◌, ◌≤◌, List, [], ◌∷◌, ◌++◌, length, refl, sym, ◌∙◌, subst, arith, inl, inr, Some, length-append}
+use Rattle.std.specs.Prelude.{slice_get, slice_index}
+use Rattle.std.specs.List.{All}
 use Rattle.std.proofs.lemmas.Bool.{cases_eq}
 use Rattle.std.proofs.lemmas.List.{length-set}
 use Rattle.std.proofs.lemmas.List.Elements.{All-nil, All-cons, All-head, All-tail, All-weaker}
 use Rattle.calculus_table.specs.Rel.{IsWithin}
 use Rattle.calculus_table.specs.Meaning.{Meaning}
-use Rattle.calculus_table.specs.Composition.{full_of, composition}
+use Rattle.calculus_table.specs.Composition.{full_of}
 use Rattle.calculus_table.specs.Calculus.{IsCalculus}
 use Rattle.calculus_table.proofs.Sets.{IsWithin-trans, IsWithin-meet_r}
 use Rattle.network_words.specs.declared.fact.Fact.{Fact}
-use Rattle.network_words.specs.Edge.{edge_count, IsProperPair}
 use Rattle.network_words.specs.Network.{Network, AreWithin, IsNetwork, met_at, set_at}
 use Rattle.network_words.specs.Facts.{met_with}
-use Rattle.network_words.specs.Closure.{IsClosed, IsClosure}
+use Rattle.network_words.specs.Closure.{IsClosure}
 use Rattle.network_words.proofs.Networks.{AreWithin-refl, AreWithin-trans, length-met_at, met_at-within, met_at-keeps, set_at-mono, set_at-met_at, IsClosure-between}
 use Rattle.network_words.proofs.Meets.{length-met_with, met_with-within}
 use Rattle.narrow_core.specs.declared.event.Event.{Event}
 use Rattle.narrow_core.specs.declared.event.Event.TheVariants.{Assert, Read, Narrow, Split, Join}
-use Rattle.narrow_core.specs.Actor.{ActorState, IsLiveAt, EachLive, fresh, live_weight}
-use Rattle.narrow_core.specs.Machine.{CoreState, AreSets, IsProperFact, IsProperActor, AreWeighed, IsCore, opened}
+use Rattle.narrow_core.specs.Actor.{ActorState, IsLiveAt, fresh}
+use Rattle.narrow_core.specs.Machine.{CoreState, AreSets, IsProperFact, IsProperActor, IsCore, opened}
 use Rattle.narrow_core.specs.Event.{IsAllowed, IsStep}
 use Rattle.narrow_core.specs.Run.{IsRun}
-use Rattle.narrow_core.specs.Bound.{IsWithinFact, IsWithinActor, HasSeenWithin, IsCandidate, AreWordsWithin, Bound, IsAlone}
+use Rattle.narrow_core.specs.Bound.{IsWithinFact, IsWithinActor, HasSeenWithin, Bound, IsAlone}
 use Rattle.narrow_core.specs.Laws.{IsSchedule}
 use Rattle.narrow_core.proofs.Sights.{facts-mono, AreSets-network}
 use Rattle.narrow_core.proofs.Cores.{same_actor, core-step, weights-two}

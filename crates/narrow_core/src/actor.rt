@@ -123,13 +123,12 @@ impl Actor {
 
     /// This actor with all that the other has.
     pub(crate) fn joined(&self, other: &Actor) -> Result<Actor, Memory>
-        requires fits { self.now.weight + other.now.weight < 2 ^ 32 }
-        requires same { length self.now.seen ≡ length other.now.seen }
+        requires { self.now.weight + other.now.weight < 2 ^ 32 }
         ensures { IfOk result (λ a. a ≡ joining self.now other.now) }
     {
         let alloc = *self.mine.allocator();
-        let mine = chained(alloc, &self.mine, &other.mine)?;
-        let seen = met(alloc, &self.seen, &other.seen)?;
+        let mine = chained(alloc, &self.mine, &other.mine).map_err(|_| Memory)?;
+        let seen = met(alloc, &self.seen, &other.seen).map_err(|_| Memory)?;
         Ok(Actor {
             is_live: self.is_live,
             weight: self.weight + other.weight,

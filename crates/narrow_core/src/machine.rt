@@ -1,6 +1,5 @@
 use crate::actor::Actor;
 use crate::event::Event;
-use crate::words::{copied, edge_between};
 use calculus_table::{Compose, Memory, Rel};
 use network_words::{Fact, Net};
 use std::alloc::Global;
@@ -11,7 +10,7 @@ use std::marker::Model;
 pub struct Core {
     opening: Vec<u64>,
     opening_weight: u32,
-    words: Net,
+    net: Net,
     actors: Vec<Actor>,
 }
 
@@ -22,21 +21,21 @@ impl Model for Core {
     ghost Value = { CoreState };
 
     ghost view = { λ a. record {
-      nodes = a.words.nodes;
-      full = a.words.full;
+      nodes = a.net.nodes;
+      full = a.net.full;
       opening = a.opening.items;
       opening_weight = a.opening_weight;
-      words = a.words.words;
+      words = a.net.words;
       actors = a.actors.items;
     } };
 
     ghost invariant = { λ a. record {
       core : IsCore (record {
-        nodes = a.words.nodes;
-        full = a.words.full;
+        nodes = a.net.nodes;
+        full = a.net.full;
         opening = a.opening.items;
         opening_weight = a.opening_weight;
-        words = a.words.words;
+        words = a.net.words;
         actors = a.actors.items;
       });
       fits : a.opening_weight < 2 ^ 32;
@@ -49,10 +48,10 @@ impl Core {
     ghost use Rattle.calculus_table.specs.Meaning.{Meaning};
     ghost use Rattle.calculus_table.specs.Composition.{full_of};
     ghost use Rattle.network_words.specs.Network.{Network};
-    ghost use Rattle.network_words.specs.Edge.{IsProperPair};
+    ghost use Rattle.network_words.specs.Edge.{edge_count, IsProperPair};
     ghost use Rattle.narrow_core.specs.Actor.{ActorState, IsLiveAt};
     ghost use Rattle.narrow_core.specs.Machine.{CoreState, IsCore, IsProperFact, opened};
-    ghost use Rattle.narrow_core.specs.Event.{IsAllowed, IsStep, HasLive, HasMore, MayAssert, MayRead, MayNarrow, MaySplit, MayJoin, Asserts, Reads, Narrows, Splits, Joins};
+    ghost use Rattle.narrow_core.specs.Event.{edge_between, IsAllowed, IsStep, HasLive, HasMore, MayAssert, MayRead, MayNarrow, MaySplit, MayJoin, Asserts, Reads, Narrows, Splits, Joins};
     ghost use Rattle.narrow_core.specs.Run.{IsRun, StopsAt};
     ghost use Rattle.narrow_core.specs.Bound.{Bound};
 
@@ -64,14 +63,13 @@ impl Core {
         ensures bound { IfOk result (λ core. (m : Meaning) → Bound m core) }
     {
         let opening = Vec::from_slice(alloc, net.words()).map_err(|_| Memory)?;
-        let words = copied(alloc, net)?;
         let actor = Actor::new(alloc, weight, net.words())?;
         let mut actors = Vec::new(alloc);
         actors.push(actor).map_err(|_| Memory)?;
         Ok(Core {
             opening,
             opening_weight: weight,
-            words,
+            net: net.copy()?,
             actors,
         })
     }
@@ -80,7 +78,7 @@ impl Core {
     pub fn words(&self) -> &[u64]
         ensures { result.now ≡ self.now.words }
     {
-        self.words.words()
+        self.net.words()
     }
 
     /// The live actor of this number.
@@ -98,7 +96,7 @@ impl Core {
     {
         match *event {
             Event::Assert { actor, fact } => self.is_live(actor) && self.is_proper(fact),
-            Event::Read { actor, edge } => self.is_live(actor) && edge < self.words.edges(),
+            Event::Read { actor, edge } => self.is_live(actor) && edge < self.net.edges(),
             Event::Narrow { actor, i, j, k } => {
                 self.is_live(actor) && self.is_pair(i, j) && self.is_pair(j, k) && i != k
             }
@@ -118,7 +116,7 @@ impl Core {
         ensures bound { Bound (C.meaning c.now) self.old → Bound (C.meaning c.now) self.new }
         ensures memory { IfErr result (λ _. self.new ≡ self.old) }
     {
-        let (_bases, _words) = (c.size(), &self.words);
+        let (_bases, _net) = (c.size(), &self.net);
         match *event {
             Event::Assert { actor, fact } => self.assert(c, actor, fact)?,
             Event::Read { actor, edge } => self.read(actor, edge),
@@ -168,13 +166,26 @@ impl Core {
     fn is_pair(&self, i: u32, j: u32) -> bool
         ensures { IsTrue result ↔ IsProperPair self.now.nodes i j }
     {
-        i < self.words.nodes() && j < self.words.nodes() && i != j
+        i < self.net.nodes() && j < self.net.nodes() && i != j
+    }
+
+    /// The number of the edge between two nodes, in whichever order.
+    fn edge_between(&self, i: u32, j: u32) -> u32
+        requires { IsProperPair self.now.nodes i j }
+        ensures value { result ≡ edge_between self.now.nodes i j }
+        ensures below { result < edge_count self.now.nodes }
+    {
+        if i < j {
+            self.net.edge(i, j)
+        } else {
+            self.net.edge(j, i)
+        }
     }
 
     fn is_proper(&self, fact: Fact) -> bool
         ensures { IsTrue result ↔ IsProperFact self.now.nodes self.now.full fact }
     {
-        self.is_pair(fact.i, fact.j) && fact.rel.within(self.words.full())
+        self.is_pair(fact.i, fact.j) && fact.rel.within(self.net.full())
     }
 
     fn assert<C: Compose>(&mut self, c: &C, actor: u32, fact: Fact) -> Result<(), Memory>
@@ -184,11 +195,11 @@ impl Core {
         ensures memory { IfErr result (λ _. self.new ≡ self.old) }
     {
         let Fact { i, j, rel } = fact;
-        let edge = edge_between(&self.words, i, j);
+        let edge = self.edge_between(i, j);
         let actor = &mut self.actors[actor as usize];
         actor.state(fact)?;
-        self.words.narrow(c, i, j, rel);
-        actor.see(edge, self.words.word(edge));
+        self.net.narrow(c, i, j, rel);
+        actor.see(edge, self.net.word(edge));
         Ok(())
     }
 
@@ -196,7 +207,7 @@ impl Core {
         requires { MayRead self.old actor edge }
         ensures { Reads actor edge self.old self.new }
     {
-        self.actors[actor as usize].see(edge, self.words.word(edge));
+        self.actors[actor as usize].see(edge, self.net.word(edge));
     }
 
     fn narrow<C: Compose>(&mut self, c: &C, actor: u32, i: u32, j: u32, k: u32)
@@ -204,12 +215,12 @@ impl Core {
         requires full { self.old.full ≡ full_of (C.meaning c.now) }
         ensures { Narrows (C.meaning c.now) actor i j k self.old self.new }
     {
-        let edge = edge_between(&self.words, i, k);
+        let edge = self.edge_between(i, k);
         let actor = &mut self.actors[actor as usize];
-        let first = actor.seen_between(c, &self.words, i, j);
-        let second = actor.seen_between(c, &self.words, j, k);
-        self.words.narrow(c, i, k, c.compose(first, second));
-        actor.see(edge, self.words.word(edge));
+        let first = actor.seen_between(c, &self.net, i, j);
+        let second = actor.seen_between(c, &self.net, j, k);
+        self.net.narrow(c, i, k, c.compose(first, second));
+        actor.see(edge, self.net.word(edge));
     }
 
     fn split(&mut self, actor: u32, left: u32) -> Result<(), Memory>
