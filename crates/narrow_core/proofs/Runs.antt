@@ -1,9 +1,8 @@
 -- Runs: what every run keeps, how one goes on by a step, and what an actor with the whole weight knows.
-use Rattle.std.proofs.Common.{◌≡◌, ℕ, zero, suc, ◌+◌, ◌<◌, ◌≤◌, List, [], ◌∷◌, ◌++◌, length, refl, sym, ◌∙◌, subst, arith, inl, inr, Some, length-append}
+use Rattle.std.proofs.Common.{◌≡◌, ℕ, zero, suc, ◌<◌, List, [], ◌∷◌, ◌++◌, length, refl, sym, ◌∙◌, subst, arith, inl, inr, Some}
 use Rattle.std.specs.Prelude.{slice_get, slice_index}
 use Rattle.std.specs.List.{All}
 use Rattle.std.proofs.lemmas.Bool.{cases_eq}
-use Rattle.std.proofs.lemmas.List.{length-set}
 use Rattle.std.proofs.lemmas.List.Elements.{All-nil, All-cons, All-head, All-tail, All-weaker}
 use Rattle.calculus_table.specs.Rel.{IsWithin}
 use Rattle.calculus_table.specs.Meaning.{Meaning}
@@ -36,17 +35,16 @@ pub record Stays (s t : CoreState) : Type 0 where
   pub full : t.full ≡ s.full
   pub opening : t.opening ≡ s.opening
   pub opening_weight : t.opening_weight ≡ s.opening_weight
-  pub actors : length t.actors ≤ length s.actors + 1
 
 stays-after : (s t u : CoreState) → t ≡ u → Stays s u → Stays s t
 stays-after s t u e h = subst (Stays s) (sym e) h
 
 pub step-stays : (m : Meaning) (e : Event) (s t : CoreState) → IsStep m e s t → Stays s t
-step-stays m (Assert k fact) s t step = stays-after s t _ step.after (record { nodes = refl; full = refl; opening = refl; opening_weight = refl; actors = simp length-set (omega arith) })
-step-stays m (Read k e) s t step = stays-after s t _ step.after (record { nodes = refl; full = refl; opening = refl; opening_weight = refl; actors = simp length-set (omega arith) })
-step-stays m (Narrow k i j l) s t step = stays-after s t _ step.after (record { nodes = refl; full = refl; opening = refl; opening_weight = refl; actors = simp length-set (omega arith) })
-step-stays m (Split k left) s t step = stays-after s t _ step.after (record { nodes = refl; full = refl; opening = refl; opening_weight = refl; actors = simp (length-append, length-set) (omega arith) })
-step-stays m (Join k l) s t step = stays-after s t _ step.after (record { nodes = refl; full = refl; opening = refl; opening_weight = refl; actors = simp length-set (omega arith) })
+step-stays m (Assert k fact) s t step = stays-after s t _ step.after (record { nodes = refl; full = refl; opening = refl; opening_weight = refl })
+step-stays m (Read k e) s t step = stays-after s t _ step.after (record { nodes = refl; full = refl; opening = refl; opening_weight = refl })
+step-stays m (Narrow k i j l) s t step = stays-after s t _ step.after (record { nodes = refl; full = refl; opening = refl; opening_weight = refl })
+step-stays m (Split k left) s t step = stays-after s t _ step.after (record { nodes = refl; full = refl; opening = refl; opening_weight = refl })
+step-stays m (Join k l) s t step = stays-after s t _ step.after (record { nodes = refl; full = refl; opening = refl; opening_weight = refl })
 
 -- ---- runs
 

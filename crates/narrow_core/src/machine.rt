@@ -52,7 +52,7 @@ impl Core {
     ghost use Rattle.narrow_core.specs.Actor.{ActorState, IsLiveAt};
     ghost use Rattle.narrow_core.specs.Machine.{CoreState, IsCore, IsProperFact, opened};
     ghost use Rattle.narrow_core.specs.Event.{edge_between, IsAllowed, IsStep, HasLive, HasMore, MayAssert, MayRead, MayNarrow, MaySplit, MayJoin, Asserts, Reads, Narrows, Splits, Joins};
-    ghost use Rattle.narrow_core.specs.Run.{IsRun, StopsAt};
+    ghost use Rattle.narrow_core.specs.Run.{IsRun, StopsAt, TakesMemory, WantsMemory};
     ghost use Rattle.narrow_core.specs.Bound.{Bound};
 
     /// The machine over `net`, with one live actor, number 0, that has the whole weight and has seen the network.
@@ -74,9 +74,24 @@ impl Core {
         })
     }
 
+    /// The sets of all edges at the opening, in edge order.
+    pub fn opening(&self) -> &[u64]
+        ensures { result.now ≡ self.now.opening }
+    {
+        &self.opening
+    }
+
+    /// The weight that the first actor had at the opening, and all live actors have together.
+    pub fn opening_weight(&self) -> u32
+        ensures { result ≡ self.now.opening_weight }
+    {
+        self.opening_weight
+    }
+
     /// The sets of all edges as they stand, in edge order.
     pub fn words(&self) -> &[u64]
-        ensures { result.now ≡ self.now.words }
+        ensures value { result.now ≡ self.now.words }
+        ensures core { IsCore self.now }
     {
         self.net.words()
     }
@@ -107,14 +122,14 @@ impl Core {
         }
     }
 
-    /// Makes one event. Where memory is wanting the machine is as before.
+    /// Makes one event. Where memory is wanting the machine is as before. Reading and narrowing take none.
     pub fn step<C: Compose>(&mut self, c: &C, event: &Event) -> Result<(), Memory>
         requires allowed { IsAllowed self.old event.now }
         requires full { self.old.full ≡ full_of (C.meaning c.now) }
-        requires few { length self.old.actors < 2 ^ 31 }
         ensures stepped { IfOk result (λ _. IsStep (C.meaning c.now) event.now self.old self.new) }
         ensures bound { Bound (C.meaning c.now) self.old → Bound (C.meaning c.now) self.new }
         ensures memory { IfErr result (λ _. self.new ≡ self.old) }
+        ensures takes { IfErr result (λ _. TakesMemory event.now) }
     {
         let (_bases, _net) = (c.size(), &self.net);
         match *event {
@@ -131,11 +146,11 @@ impl Core {
     /// is where the first of them left it.
     pub fn run<C: Compose>(&mut self, c: &C, events: &[Event]) -> Result<u32, Memory>
         requires full { self.old.full ≡ full_of (C.meaning c.now) }
-        requires few { length self.old.actors + length events.now < 2 ^ 31 }
+        requires few { length events.now < 2 ^ 32 }
         ensures ran { IfOk result (λ steps. IsRun (C.meaning c.now) (take steps events.now) self.old self.new) }
         ensures stops { IfOk result (λ steps. StopsAt events.now steps self.new) }
         ensures bound { Bound (C.meaning c.now) self.old → Bound (C.meaning c.now) self.new }
-        ensures memory { IfErr result (λ _. (steps : ℕ) × (steps ≤ length events.now) × IsRun (C.meaning c.now) (take steps events.now) self.old self.new) }
+        ensures memory { IfErr result (λ _. WantsMemory (C.meaning c.now) events.now self.old self.new) }
     {
         for (done, event) in events.iter().enumerate() {
             if !self.may(event) {

@@ -8,4 +8,5 @@ returns c = record {
   the_whole_weight_is_alone = λ m net weight events s k a h live whole.
       let kept = schedule-keeps m net weight events s h in
       alone m s k a h.calculus kept.full kept.core kept.bound live (whole ∙ sym kept.opening_weight);
+  the_bound_makes_alone = alone;
 }

@@ -1,9 +1,10 @@
-use Rattle.std.proofs.Common.{◌≡◌, ◌+◌, ◌++◌, ◌∷◌, [], sym, ◌∙◌, ap, subst, length, take, List, arith, rules}
+use Rattle.std.proofs.Common.{◌≡◌, ◌+◌, ◌++◌, ◌∷◌, [], refl, sym, Result, Ok, Err, IfErr, ◌∙◌, ap, subst, length, take, List, arith, rules}
 use Rattle.std.proofs.lemmas.List.{take_more}
-use Rattle.std.proofs.lemmas.Option.{slice_get_within}
+use Rattle.std.proofs.lemmas.Option.{slice_get_read, slice_get_within}
 use Rattle.narrow_core.specs.declared.event.Event.{Event}
 use Rattle.narrow_core.specs.Event.{IsAllowed}
-use Rattle.narrow_core.specs.Run.{IsRun}
+use Rattle.narrow_core.specs.Machine.{CoreState}
+use Rattle.narrow_core.specs.Run.{IsRun, WantsMemory}
 use Rattle.narrow_core.proofs.Runs.{run-more, step-stays}
 use Rattle.narrow_core.proofs.machine.Core.run.Goals as goal
 
@@ -20,9 +21,28 @@ loop-done-preserved g c =
       run = subst (λ (es : List Event). IsRun m es c.args.self.now c.step.new.self) (sym longer)
           (run-more m (take c.loop-done.done c.args.events.now) e c.args.self.now c.loop-done.self c.step.new.self h.run allowed c.in_ok-step.ensures.stepped);
       full = stays.full ∙ h.full;
-      few = omega (arith, stays.actors, h.few);
       bound = λ b. c.step.ensures.bound (h.bound b);
     }
+
+wanted : {T E : Type 0} (P : Type 0) (r : Result T E) → P → IfErr r (λ _. P)
+wanted P (Ok value) p = tt
+wanted P (Err error) p = p
+
+pub returns-in_err-step-clause-memory : goal.returns-in_err-step-clause-memory
+returns-in_err-step-clause-memory g c =
+    let m = g.C.Compose.meaning c.args.c.now in
+    let e = c.index-events-done.result in
+    let stays : c.step.new.self ≡ c.loop-done.self = c.in_err-step.ensures.memory in
+    let allowed : IsAllowed c.loop-done.self e = search rules in
+    let run = subst (IsRun m (take c.loop-done.done c.args.events.now) c.args.self.now) (sym stays) c.loop-done.invariant.run in
+    wanted (WantsMemory m c.args.events.now c.args.self.now c.step.new.self) c.from_residual.result (record {
+      steps = c.loop-done.done;
+      run = run;
+      event = e;
+      is_next = slice_get_read c.args.events.now (length c.args.events.now) c.loop-done.done e refl c.loop-done-test.true c.index-events-done.is;
+      allowed = subst (λ (s : CoreState). IsAllowed s e) (sym stays) allowed;
+      takes = c.in_err-step.ensures.takes;
+    })
 
 pub returns-clause-stops : goal.returns-clause-stops
 returns-clause-stops g c = record {

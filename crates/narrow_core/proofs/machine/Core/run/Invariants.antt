@@ -1,4 +1,4 @@
-use Rattle.std.proofs.Common.{◌≡◌, ◌+◌, ◌≤◌, length, take}
+use Rattle.std.proofs.Common.{◌≡◌, take}
 use Rattle.calculus_table.specs.Composition.{full_of}
 use Rattle.narrow_core.specs.Run.{IsRun}
 use Rattle.narrow_core.specs.Bound.{Bound}
@@ -8,6 +8,5 @@ abbrev pub invariant-loop-done : goal.invariant-loop-done
 invariant-loop-done g l = record {
   run : IsRun (g.C.Compose.meaning l.c) (take l.done l.events) l.fn.self l.self;
   full : l.self.full ≡ full_of (g.C.Compose.meaning l.c);
-  few : length l.self.actors ≤ length l.fn.self.actors + l.done;
   bound : Bound (g.C.Compose.meaning l.c) l.fn.self → Bound (g.C.Compose.meaning l.c) l.self;
 }
