@@ -18,7 +18,7 @@ use Rattle.network_words.proofs.Meets.{length-met_with, met_with-within}
 use Rattle.narrow_core.specs.declared.event.Event.{Event}
 use Rattle.narrow_core.specs.declared.event.Event.TheVariants.{Assert, Read, Narrow, Split, Join}
 use Rattle.narrow_core.specs.Actor.{ActorState, IsLiveAt, fresh}
-use Rattle.narrow_core.specs.Machine.{CoreState, AreSets, IsProperFact, IsProperActor, IsCore, opened}
+use Rattle.narrow_core.specs.Machine.{CoreState, AreSets, IsProperFact, IsProperActor, IsCore, SameOpening, opened}
 use Rattle.narrow_core.specs.Event.{IsAllowed, IsStep}
 use Rattle.narrow_core.specs.Run.{IsRun}
 use Rattle.narrow_core.specs.Bound.{IsWithinFact, IsWithinActor, HasSeenWithin, Bound, IsAlone}
@@ -29,22 +29,25 @@ use Rattle.narrow_core.proofs.Bounds.{full-fact, bound-step}
 
 -- ---- one step
 
--- what a step leaves as it was
-pub record Stays (s t : CoreState) : Type 0 where
-  pub nodes : t.nodes ≡ s.nodes
-  pub full : t.full ≡ s.full
-  pub opening : t.opening ≡ s.opening
-  pub opening_weight : t.opening_weight ≡ s.opening_weight
+-- a machine that is known to be another
+same-after : (s t u : CoreState) → t ≡ u → SameOpening s u → SameOpening s t
+same-after s t u e h = subst (SameOpening s) (sym e) h
 
-stays-after : (s t u : CoreState) → t ≡ u → Stays s u → Stays s t
-stays-after s t u e h = subst (Stays s) (sym e) h
+-- every event leaves the opening as it was
+pub step-stays : (m : Meaning) (e : Event) (s t : CoreState) → IsStep m e s t → SameOpening s t
+step-stays m (Assert k fact) s t step = same-after s t _ step.after (record { nodes = refl; full = refl; opening = refl; opening_weight = refl })
+step-stays m (Read k e) s t step = same-after s t _ step.after (record { nodes = refl; full = refl; opening = refl; opening_weight = refl })
+step-stays m (Narrow k i j l) s t step = same-after s t _ step.after (record { nodes = refl; full = refl; opening = refl; opening_weight = refl })
+step-stays m (Split k left) s t step = same-after s t _ step.after (record { nodes = refl; full = refl; opening = refl; opening_weight = refl })
+step-stays m (Join k l) s t step = same-after s t _ step.after (record { nodes = refl; full = refl; opening = refl; opening_weight = refl })
 
-pub step-stays : (m : Meaning) (e : Event) (s t : CoreState) → IsStep m e s t → Stays s t
-step-stays m (Assert k fact) s t step = stays-after s t _ step.after (record { nodes = refl; full = refl; opening = refl; opening_weight = refl })
-step-stays m (Read k e) s t step = stays-after s t _ step.after (record { nodes = refl; full = refl; opening = refl; opening_weight = refl })
-step-stays m (Narrow k i j l) s t step = stays-after s t _ step.after (record { nodes = refl; full = refl; opening = refl; opening_weight = refl })
-step-stays m (Split k left) s t step = stays-after s t _ step.after (record { nodes = refl; full = refl; opening = refl; opening_weight = refl })
-step-stays m (Join k l) s t step = stays-after s t _ step.after (record { nodes = refl; full = refl; opening = refl; opening_weight = refl })
+pub same-trans : (s t u : CoreState) → SameOpening s t → SameOpening t u → SameOpening s u
+same-trans s t u p q = record {
+  nodes = q.nodes ∙ p.nodes;
+  full = q.full ∙ p.full;
+  opening = q.opening ∙ p.opening;
+  opening_weight = q.opening_weight ∙ p.opening_weight;
+}
 
 -- ---- runs
 
@@ -58,13 +61,11 @@ pub record Keeps (m : Meaning) (s t : CoreState) : Type 0 where
   pub core : IsCore t
   pub full : t.full ≡ full_of m
   pub bound : Bound m t
-  pub opening : t.opening ≡ s.opening
-  pub nodes : t.nodes ≡ s.nodes
-  pub opening_weight : t.opening_weight ≡ s.opening_weight
+  pub same : SameOpening s t
 
 pub run-keeps : (m : Meaning) (events : List Event) (s t : CoreState) → IsCalculus m → s.full ≡ full_of m → IsCore s → Bound m s → IsRun m events s t → Keeps m s t
 run-keeps m [] s t calculus full core bound run =
-    subst (Keeps m s) (sym run) (record { core = core; full = full; bound = bound; opening = refl; nodes = refl; opening_weight = refl })
+    subst (Keeps m s) (sym run) (record { core = core; full = full; bound = bound; same = record { nodes = refl; full = refl; opening = refl; opening_weight = refl } })
 run-keeps m (e ∷ events) s t calculus full core bound run =
     let mid = run.0 in
     let stays = step-stays m e s mid run.2 in
@@ -73,9 +74,7 @@ run-keeps m (e ∷ events) s t calculus full core bound run =
       core = rest.core;
       full = rest.full;
       bound = rest.bound;
-      opening = rest.opening ∙ stays.opening;
-      nodes = rest.nodes ∙ stays.nodes;
-      opening_weight = rest.opening_weight ∙ stays.opening_weight;
+      same = same-trans s mid t stays rest.same;
     }
 
 -- ---- the opening

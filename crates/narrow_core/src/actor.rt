@@ -22,7 +22,7 @@ impl Model for Actor {
 }
 
 impl Actor {
-    ghost use Rattle.std.specs.Prelude.{◌≡◌, ◌+◌, ◌≤◌, ◌<◌, ◌^◌, length, slice_index, IfOk, IfErr, IsErr};
+    ghost use Rattle.std.specs.Prelude.{◌≡◌, ◌+◌, ◌≤◌, ◌<◌, ◌^◌, length, slice_index, IfOk, OnErr, OnOk};
     ghost use Rattle.calculus_table.specs.Rel.{IsWithin};
     ghost use Rattle.calculus_table.specs.Composition.{full_of};
     ghost use Rattle.network_words.specs.Edge.{IsProperPair};
@@ -100,8 +100,8 @@ impl Actor {
 
     /// Adds a fact to those that the actor has stated.
     pub(crate) fn state(&mut self, fact: Fact) -> Result<(), Memory>
-        ensures stated { IfOk result (λ _. self.new ≡ stating fact self.old) }
-        ensures memory { IfErr result (λ _. self.new ≡ self.old) }
+        ensures stated { OnOk result (self.new ≡ stating fact self.old) }
+        ensures memory { OnErr result (self.new ≡ self.old) }
     {
         self.mine.push(fact).map_err(|_| Memory)
     }

@@ -43,14 +43,13 @@ impl Model for Core {
 }
 
 impl Core {
-    ghost use Rattle.std.specs.Prelude.{◌≡◌, ◌≢◌, ℕ, ◌+◌, ◌<◌, ◌≤◌, ◌↔◌, ◌^◌, List, length, take, slice_get, slice_index, IfOk, IfErr, IsTrue, Some, MatchOption};
+    ghost use Rattle.std.specs.Prelude.{◌≡◌, ℕ, ◌<◌, ◌↔◌, ◌^◌, length, take, slice_index, IfOk, OnErr, OnOk, IsTrue, Some, MatchOption};
     ghost use Rattle.calculus_table.specs.Rel.{IsWithin};
     ghost use Rattle.calculus_table.specs.Meaning.{Meaning};
     ghost use Rattle.calculus_table.specs.Composition.{full_of};
-    ghost use Rattle.network_words.specs.Network.{Network};
     ghost use Rattle.network_words.specs.Edge.{edge_count, IsProperPair};
-    ghost use Rattle.narrow_core.specs.Actor.{ActorState, IsLiveAt};
-    ghost use Rattle.narrow_core.specs.Machine.{CoreState, IsCore, IsProperFact, opened};
+    ghost use Rattle.narrow_core.specs.Actor.{IsLiveAt};
+    ghost use Rattle.narrow_core.specs.Machine.{CoreState, IsCore, IsProperFact, SameOpening, opened};
     ghost use Rattle.narrow_core.specs.Event.{edge_between, IsAllowed, IsStep, HasLive, HasMore, MayAssert, MayRead, MayNarrow, MaySplit, MayJoin, Asserts, Reads, Narrows, Splits, Joins};
     ghost use Rattle.narrow_core.specs.Run.{IsRun, StopsAt, TakesMemory, WantsMemory};
     ghost use Rattle.narrow_core.specs.Bound.{Bound};
@@ -126,10 +125,11 @@ impl Core {
     pub fn step<C: Compose>(&mut self, c: &C, event: &Event) -> Result<(), Memory>
         requires allowed { IsAllowed self.old event.now }
         requires full { self.old.full ≡ full_of (C.meaning c.now) }
-        ensures stepped { IfOk result (λ _. IsStep (C.meaning c.now) event.now self.old self.new) }
+        ensures stepped { OnOk result (IsStep (C.meaning c.now) event.now self.old self.new) }
         ensures bound { Bound (C.meaning c.now) self.old → Bound (C.meaning c.now) self.new }
-        ensures memory { IfErr result (λ _. self.new ≡ self.old) }
-        ensures takes { IfErr result (λ _. TakesMemory event.now) }
+        ensures memory { OnErr result (self.new ≡ self.old) }
+        ensures takes { OnErr result (TakesMemory event.now) }
+        ensures same { SameOpening self.old self.new }
     {
         let (_bases, _net) = (c.size(), &self.net);
         match *event {
@@ -150,7 +150,8 @@ impl Core {
         ensures ran { IfOk result (λ steps. IsRun (C.meaning c.now) (take steps events.now) self.old self.new) }
         ensures stops { IfOk result (λ steps. StopsAt events.now steps self.new) }
         ensures bound { Bound (C.meaning c.now) self.old → Bound (C.meaning c.now) self.new }
-        ensures memory { IfErr result (λ _. WantsMemory (C.meaning c.now) events.now self.old self.new) }
+        ensures memory { OnErr result (WantsMemory (C.meaning c.now) events.now self.old self.new) }
+        ensures same { SameOpening self.old self.new }
     {
         for (done, event) in events.iter().enumerate() {
             if !self.may(event) {
@@ -206,8 +207,8 @@ impl Core {
     fn assert<C: Compose>(&mut self, c: &C, actor: u32, fact: Fact) -> Result<(), Memory>
         requires allowed { MayAssert self.old actor fact }
         requires full { self.old.full ≡ full_of (C.meaning c.now) }
-        ensures asserted { IfOk result (λ _. Asserts (C.meaning c.now) actor fact self.old self.new) }
-        ensures memory { IfErr result (λ _. self.new ≡ self.old) }
+        ensures asserted { OnOk result (Asserts (C.meaning c.now) actor fact self.old self.new) }
+        ensures memory { OnErr result (self.new ≡ self.old) }
     {
         let Fact { i, j, rel } = fact;
         let edge = self.edge_between(i, j);
@@ -240,8 +241,8 @@ impl Core {
 
     fn split(&mut self, actor: u32, left: u32) -> Result<(), Memory>
         requires { MaySplit self.old actor left }
-        ensures split { IfOk result (λ _. Splits actor left self.old self.new) }
-        ensures memory { IfErr result (λ _. self.new ≡ self.old) }
+        ensures split { OnOk result (Splits actor left self.old self.new) }
+        ensures memory { OnErr result (self.new ≡ self.old) }
     {
         let actor = actor as usize;
         let new = self.actors[actor].split(left)?;
@@ -252,8 +253,8 @@ impl Core {
 
     fn join(&mut self, actor: u32, other: u32) -> Result<(), Memory>
         requires { MayJoin self.old actor other }
-        ensures joined { IfOk result (λ _. Joins actor other self.old self.new) }
-        ensures memory { IfErr result (λ _. self.new ≡ self.old) }
+        ensures joined { OnOk result (Joins actor other self.old self.new) }
+        ensures memory { OnErr result (self.new ≡ self.old) }
     {
         let (actor, other) = (actor as usize, other as usize);
         let joined = self.actors[actor].joined(&self.actors[other])?;
