@@ -1,9 +1,9 @@
 -- Every allowed event keeps the bound.
-use Rattle.std.proofs.Common.{◌≡◌, ◌≢◌, ℕ, zero, suc, ◌+◌, ◌-◌, ◌<◌, ◌≤◌, Bool, true, false, List, [], ◌∷◌, ◌++◌, length, set, refl, sym, ◌∙◌, ap, subst, arith, ◌⊎◌, inl, inr, Some, None}
+use Rattle.std.proofs.Common.{◌≡◌, ◌≢◌, ℕ, ◌<◌, List, [], ◌∷◌, ◌++◌, length, set, refl, sym, ◌∙◌, subst, arith, inl, inr, Some}
 use Rattle.std.specs.Prelude.{bit_and, slice_get, slice_index, slice_set, IsTrue}
-use Rattle.std.specs.List.{All, sum_by}
+use Rattle.std.specs.List.{All}
 use Rattle.std.proofs.lemmas.Bool.{cases_eq}
-use Rattle.std.proofs.lemmas.List.Elements.{All-append}
+use Rattle.std.proofs.lemmas.List.Elements.{All-append, All-push, All-nil}
 use Rattle.std.proofs.lemmas.Option.{slice_get_within}
 use Rattle.calculus_table.specs.Rel.{IsWithin}
 use Rattle.calculus_table.specs.Meaning.{Meaning}
@@ -11,17 +11,17 @@ use Rattle.calculus_table.specs.Composition.{full_of, composition}
 use Rattle.calculus_table.specs.Calculus.{IsCalculus}
 use Rattle.calculus_table.proofs.Sets.{IsWithin-trans, IsWithin-meet_r}
 use Rattle.network_words.specs.declared.fact.Fact.{Fact}
-use Rattle.network_words.specs.Edge.{edge_count, IsProperPair, IsProperTriple}
-use Rattle.network_words.specs.Network.{Network, AreWithin, IsNetwork, met_at, set_at}
-use Rattle.network_words.specs.Closure.{IsClosed, IsClosure}
-use Rattle.network_words.proofs.Networks.{AreWithin-refl, AreWithin-trans, length-met_at, met_at-within, met_at-keeps, set_at-met_at, narrow-keeps, IsClosure-between}
+use Rattle.network_words.specs.Edge.{edge_count, IsProperTriple}
+use Rattle.network_words.specs.Network.{AreWithin, IsNetwork, met_at, set_at}
+use Rattle.network_words.specs.Closure.{IsClosed}
+use Rattle.network_words.proofs.Networks.{AreWithin-refl, AreWithin-trans, met_at-within, met_at-keeps, set_at-met_at, narrow-keeps}
 use Rattle.narrow_core.specs.declared.event.Event.{Event}
 use Rattle.narrow_core.specs.declared.event.Event.TheVariants.{Assert, Read, Narrow, Split, Join}
 use Rattle.narrow_core.specs.Actor.{ActorState, IsLiveAt, EachLive, fresh, seeing, stating, giving, joining, spent, met_words}
-use Rattle.narrow_core.specs.Machine.{CoreState, AreSets, IsProperFact, IsProperActor, AreWeighed, IsCore, opened}
-use Rattle.narrow_core.specs.Event.{edge_between, IsAllowed, IsStep, HasLive, MayAssert, MayRead, MayNarrow, MaySplit, MayJoin, Asserts, Reads, Narrows, Splits, Joins}
-use Rattle.narrow_core.specs.Bound.{IsWithinFact, IsWithinActor, HasSeenWithin, IsCandidate, AreWordsWithin, Bound}
-use Rattle.narrow_core.proofs.Places.{get-set, get-set_same, get-set_other, get-last, get-more, get-end, All-more, All-last, All-left, All-right, All-none}
+use Rattle.narrow_core.specs.Machine.{CoreState, IsProperFact, IsCore}
+use Rattle.narrow_core.specs.Event.{edge_between, IsAllowed, IsStep}
+use Rattle.narrow_core.specs.Bound.{IsWithinFact, IsWithinActor, HasSeenWithin, IsCandidate, Bound}
+use Rattle.narrow_core.proofs.Places.{get-set_same, get-set_other, get-more, All-last, All-left, All-right}
 use Rattle.narrow_core.proofs.Sights.{facts-mono, edge_between-lt, set_at-edge, seen-within, seen-keeps, seen-edge, met-within_l, met-within_r, met-keeps, AreSets-network}
 use Rattle.narrow_core.proofs.Cores.{same_actor, live_here, live-set, live-more, weights-same, weights-split, weights-join}
 
@@ -129,8 +129,8 @@ move-assert m n words after fact a calculus net l p eq =
       sees = λ h. seen-keeps after a.seen e (AreWithin-trans after words a.seen less h);
       sight = seen-within a.seen e x;
       facts = λ xs h. All-left (IsWithinFact m n xs) a.mine (fact ∷ []) h;
-      stated = λ h. All-more (IsWithinFact m n after) a.mine fact h here;
-      seen_stated = λ h. All-more (IsWithinFact m n seen) a.mine fact h seen_here;
+      stated = λ h. All-push (IsWithinFact m n after) a.mine fact h here;
+      seen_stated = λ h. All-push (IsWithinFact m n seen) a.mine fact h seen_here;
       kept = λ xs xs_net closed w seen facts.
           subst (AreWithin xs) (sym eq) (met_at-keeps m n xs words fact.i fact.j fact.rel calculus xs_net w (All-last (IsWithinFact m n xs) a.mine fact facts));
     }
@@ -172,11 +172,11 @@ bound-split m s k left a h l some less =
         opening = h.words_within.opening;
         actors = live-more (set s.actors k b) c (IsWithinActor m s.nodes s.words)
             (live-set s.actors k b (IsWithinActor m s.nodes s.words) (λ t. record { seen = in_words.seen; facts = in_words.facts }) (λ j x d t. h.words_within.actors j x t))
-            (record { seen = in_words.seen; facts = All-none (IsWithinFact m s.nodes s.words) });
+            (record { seen = in_words.seen; facts = All-nil (IsWithinFact m s.nodes s.words) });
       };
       seen_within = live-more (set s.actors k b) c (HasSeenWithin m s.nodes s.opening)
           (live-set s.actors k b (HasSeenWithin m s.nodes s.opening) (λ t. record { opening = in_seen.opening; facts = in_seen.facts }) (λ j x d t. h.seen_within j x t))
-          (record { opening = in_seen.opening; facts = All-none (IsWithinFact m s.nodes a.seen) });
+          (record { opening = in_seen.opening; facts = All-nil (IsWithinFact m s.nodes a.seen) });
       weights = weights-split s.opening_weight s.actors k left a a.seen l some less h.weights;
     }
 
@@ -245,7 +245,7 @@ bound-join m s k l a b h d p q =
 
 -- ---- every event
 
-full-fact : (m : Meaning) (n full : ℕ) (fact : Fact) → full ≡ full_of m → IsProperFact n full fact → IsProperFact n (full_of m) fact
+pub full-fact : (m : Meaning) (n full : ℕ) (fact : Fact) → full ≡ full_of m → IsProperFact n full fact → IsProperFact n (full_of m) fact
 full-fact m n full fact e p = record { pair = p.pair; within = subst (IsWithin fact.rel) e p.within }
 
 -- every allowed event keeps the bound

@@ -1,24 +1,21 @@
 -- What every machine keeps: an allowed event leaves sets for each edge, proper facts, and the sum of the weights.
-use Rattle.std.proofs.Common.{◌≡◌, ◌≢◌, ℕ, zero, suc, ◌+◌, ◌-◌, ◌<◌, ◌≤◌, Bool, true, false, cond, List, [], ◌∷◌, ◌++◌, length, get_or, set, refl, sym, ◌∙◌, ap, subst, arith, ◌⊎◌, inl, inr, Some, None, length-append}
-use Rattle.std.specs.Prelude.{bit_and, slice_get, slice_index, slice_set, IsTrue}
-use Rattle.std.specs.List.{All, sum_by}
-use Rattle.std.proofs.lemmas.List.{length-set}
+use Rattle.std.proofs.Common.{◌≡◌, ◌≢◌, ℕ, ◌+◌, ◌-◌, ◌<◌, ◌≤◌, cond, List, [], ◌∷◌, ◌++◌, length, set, refl, sym, ◌∙◌, ap, subst, arith, inl, inr, Some}
+use Rattle.std.specs.Prelude.{slice_get, slice_index, IsTrue}
+use Rattle.std.specs.List.{sum_by}
+use Rattle.std.proofs.lemmas.List.Elements.{All-append, All-push, All-nil}
 use Rattle.std.proofs.lemmas.List.Sums.{sum_by-set, sum_by-append}
 use Rattle.std.proofs.lemmas.Option.{slice_get_within, get_or_from_slice_get}
-use Rattle.calculus_table.specs.Rel.{IsWithin}
 use Rattle.calculus_table.specs.Meaning.{Meaning}
-use Rattle.calculus_table.specs.Composition.{full_of, composition}
+use Rattle.calculus_table.specs.Composition.{composition}
 use Rattle.network_words.specs.declared.fact.Fact.{Fact}
-use Rattle.network_words.specs.Edge.{edge_count}
-use Rattle.network_words.specs.Network.{Network, AreWithin, IsNetwork, met_at, set_at}
-use Rattle.network_words.proofs.Networks.{AreWithin-refl, AreWithin-trans, length-met_at, met_at-within}
+use Rattle.network_words.specs.Network.{AreWithin, set_at}
+use Rattle.network_words.proofs.Networks.{AreWithin-refl, length-met_at, met_at-within}
 use Rattle.narrow_core.specs.declared.event.Event.{Event}
 use Rattle.narrow_core.specs.declared.event.Event.TheVariants.{Assert, Read, Narrow, Split, Join}
-use Rattle.narrow_core.specs.Actor.{ActorState, IsLiveAt, EachLive, live_weight, fresh, seeing, stating, giving, joining, spent, met_words}
-use Rattle.narrow_core.specs.Machine.{CoreState, AreSets, IsProperFact, IsProperActor, AreWeighed, IsCore, opened}
-use Rattle.narrow_core.specs.Event.{edge_between, IsAllowed, IsStep, HasLive, MayAssert, MayRead, MayNarrow, MaySplit, MayJoin, Asserts, Reads, Narrows, Splits, Joins}
-use Rattle.narrow_core.proofs.Places.{get-set, get-set_same, get-set_other, get-last, get-more, All-more, All-none}
-use Rattle.std.proofs.lemmas.List.Elements.{All-append}
+use Rattle.narrow_core.specs.Actor.{ActorState, IsLiveAt, EachLive, live_weight, fresh, seeing, stating, giving, joining, spent}
+use Rattle.narrow_core.specs.Machine.{CoreState, AreSets, IsProperFact, IsProperActor, AreWeighed, IsCore}
+use Rattle.narrow_core.specs.Event.{edge_between, IsAllowed, IsStep, HasLive, MayAssert, MaySplit, MayJoin, Asserts, Reads, Narrows, Splits, Joins}
+use Rattle.narrow_core.proofs.Places.{get-set, get-set_other, get-last}
 use Rattle.narrow_core.proofs.Sights.{length-seen, seen-within, length-met, met-within_l, AreSets-less}
 
 -- ---- two readings of one place
@@ -130,13 +127,13 @@ proper-seeing : (n full e x : ℕ) (a : ActorState) → IsProperActor n full a �
 proper-seeing n full e x a p = record { seen = AreSets-less n full a.seen _ p.seen (length-seen a.seen e x) (seen-within a.seen e x); facts = p.facts }
 
 proper-stating : (n full : ℕ) (fact : Fact) (a : ActorState) → IsProperActor n full a → IsProperFact n full fact → IsProperActor n full (stating fact a)
-proper-stating n full fact a p f = record { seen = p.seen; facts = All-more (IsProperFact n full) a.mine fact p.facts f }
+proper-stating n full fact a p f = record { seen = p.seen; facts = All-push (IsProperFact n full) a.mine fact p.facts f }
 
 proper-giving : (n full left : ℕ) (a : ActorState) → IsProperActor n full a → IsProperActor n full (giving left a)
 proper-giving n full left a p = record { seen = p.seen; facts = p.facts }
 
 proper-fresh : (n full weight : ℕ) (seen : List ℕ) → AreSets n full seen → IsProperActor n full (fresh weight seen)
-proper-fresh n full weight seen p = record { seen = p; facts = All-none (IsProperFact n full) }
+proper-fresh n full weight seen p = record { seen = p; facts = All-nil (IsProperFact n full) }
 
 proper-joining : (n full : ℕ) (a b : ActorState) → IsProperActor n full a → IsProperActor n full b → IsProperActor n full (joining a b)
 proper-joining n full a b p q = record {

@@ -1,10 +1,8 @@
 -- Lists by their places: what a write and an addition change, and what holds of each element.
-use Rattle.std.proofs.Common.{◌≡◌, ◌≢◌, ℕ, zero, suc, ◌+◌, ◌<◌, ◌≤◌, List, [], ◌∷◌, ◌++◌, length, get_or, set, refl, sym, ◌∙◌, ap, subst, arith, ◌⊎◌, inl, inr, Some, None, length-append}
+use Rattle.std.proofs.Common.{◌≡◌, ◌≢◌, ℕ, zero, suc, ◌<◌, List, [], ◌∷◌, ◌++◌, length, set, refl, ap, arith, ◌⊎◌, inl, inr, Some}
 use Rattle.std.specs.Prelude.{slice_get}
 use Rattle.std.specs.List.{All}
-use Rattle.std.proofs.lemmas.Bool.{cases_lt}
-use Rattle.std.proofs.lemmas.List.Elements.{All-append}
-use Rattle.std.proofs.lemmas.Option.{slice_get_within, slice_get_read, slice_get-get_or, get_or_from_slice_get}
+use Rattle.std.proofs.lemmas.List.Elements.{All-nil, All-cons, All-head, All-tail}
 
 module _ {A : Type 0} where
   pub get-set : (xs : List A) (k j : ℕ) (v a : A) → slice_get (set xs k v) j ≡ Some a → ((j ≡ k) × (v ≡ a)) ⊎ ((j ≢ k) × (slice_get xs j ≡ Some a))
@@ -43,51 +41,15 @@ module _ {A : Type 0} where
   get-more (x ∷ xs) ys zero a e = e
   get-more (x ∷ xs) ys (suc j) a e = get-more xs ys j a e
 
-  pub get-end : (xs : List A) (v : A) → slice_get (xs ++ v ∷ []) (length xs) ≡ Some v
-  get-end [] v = refl
-  get-end (x ∷ xs) v = get-end xs v
-
-  pub set-set : (xs : List A) (k : ℕ) (v w : A) → set (set xs k v) k w ≡ set xs k w
-  set-set [] k v w = refl
-  set-set (x ∷ xs) zero v w = refl
-  set-set (x ∷ xs) (suc k) v w = ap (λ (l : List A). x ∷ l) (set-set xs k v w)
-
-  pub set-append : (xs ys : List A) (k : ℕ) (v : A) → k < length xs → set (xs ++ ys) k v ≡ set xs k v ++ ys
-  set-append [] ys k v h = absurd (omega arith)
-  set-append (x ∷ xs) ys zero v h = refl
-  set-append (x ∷ xs) ys (suc k) v h = ap (λ (l : List A). x ∷ l) (set-append xs ys k v (omega arith))
-
   -- ---- a property of each element
 
-  pub All-weaken : (P Q : A → Type 0) (xs : List A) → ((a : A) → P a → Q a) → All P xs → All Q xs
-  All-weaken P Q xs f h = λ k d b. f _ (h k d b)
-
-  pub All-tail : (P : A → Type 0) (x : A) (xs : List A) → All P (x ∷ xs) → All P xs
-  All-tail P x xs h = λ k d b. h (suc k) d (omega arith)
-
-  pub All-head : (P : A → Type 0) (x : A) (xs : List A) → All P (x ∷ xs) → P x
-  All-head P x xs h = h zero x (omega arith)
-
-  pub All-cons : (P : A → Type 0) (x : A) (xs : List A) → P x → All P xs → All P (x ∷ xs)
-  All-cons P x xs p h zero d b = p
-  All-cons P x xs p h (suc k) d b = h k d (omega arith)
-
-  pub All-none : (P : A → Type 0) → All P []
-  All-none P k d b = absurd (omega arith)
-
-  pub All-one : (P : A → Type 0) (x : A) → P x → All P (x ∷ [])
-  All-one P x p = All-cons P x [] p (All-none P)
-
   pub All-left : (P : A → Type 0) (xs ys : List A) → All P (xs ++ ys) → All P xs
-  All-left P [] ys h = All-none P
+  All-left P [] ys h = All-nil P
   All-left P (x ∷ xs) ys h = All-cons P x xs (All-head P x (xs ++ ys) h) (All-left P xs ys (All-tail P x (xs ++ ys) h))
 
   pub All-right : (P : A → Type 0) (xs ys : List A) → All P (xs ++ ys) → All P ys
   All-right P [] ys h = h
   All-right P (x ∷ xs) ys h = All-right P xs ys (All-tail P x (xs ++ ys) h)
-
-  pub All-more : (P : A → Type 0) (xs : List A) (x : A) → All P xs → P x → All P (xs ++ x ∷ [])
-  All-more P xs x h p = All-append P xs (x ∷ []) h (All-one P x p)
 
   pub All-last : (P : A → Type 0) (xs : List A) (x : A) → All P (xs ++ x ∷ []) → P x
   All-last P xs x h = All-head P x [] (All-right P xs (x ∷ []) h)

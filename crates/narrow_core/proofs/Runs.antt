@@ -1,51 +1,53 @@
 -- Runs: what every run keeps, how one goes on by a step, and what an actor with the whole weight knows.
-use Rattle.std.proofs.Common.{◌≡◌, ◌≢◌, ℕ, zero, suc, ◌+◌, ◌-◌, ◌<◌, ◌≤◌, Bool, true, false, List, [], ◌∷◌, ◌++◌, length, take, set, refl, sym, ◌∙◌, ap, subst, arith, ◌⊎◌, inl, inr, Some, None, length-append}
-use Rattle.std.specs.Prelude.{bit_and, slice_get, slice_index, slice_set, IsTrue}
-use Rattle.std.specs.List.{All, sum_by}
+use Rattle.std.proofs.Common.{◌≡◌, ℕ, zero, suc, ◌<◌, List, [], ◌∷◌, ◌++◌, length, refl, sym, ◌∙◌, subst, arith, inl, inr, Some}
+use Rattle.std.specs.Prelude.{slice_get, slice_index}
+use Rattle.std.specs.List.{All}
 use Rattle.std.proofs.lemmas.Bool.{cases_eq}
-use Rattle.std.proofs.lemmas.List.{length-set}
+use Rattle.std.proofs.lemmas.List.Elements.{All-nil, All-cons, All-head, All-tail, All-weaker}
 use Rattle.calculus_table.specs.Rel.{IsWithin}
 use Rattle.calculus_table.specs.Meaning.{Meaning}
-use Rattle.calculus_table.specs.Composition.{full_of, composition}
+use Rattle.calculus_table.specs.Composition.{full_of}
 use Rattle.calculus_table.specs.Calculus.{IsCalculus}
 use Rattle.calculus_table.proofs.Sets.{IsWithin-trans, IsWithin-meet_r}
 use Rattle.network_words.specs.declared.fact.Fact.{Fact}
-use Rattle.network_words.specs.Edge.{edge_count, IsProperPair}
 use Rattle.network_words.specs.Network.{Network, AreWithin, IsNetwork, met_at, set_at}
-use Rattle.network_words.specs.Closure.{IsClosed, IsClosure}
+use Rattle.network_words.specs.Facts.{met_with}
+use Rattle.network_words.specs.Closure.{IsClosure}
 use Rattle.network_words.proofs.Networks.{AreWithin-refl, AreWithin-trans, length-met_at, met_at-within, met_at-keeps, set_at-mono, set_at-met_at, IsClosure-between}
+use Rattle.network_words.proofs.Meets.{length-met_with, met_with-within}
 use Rattle.narrow_core.specs.declared.event.Event.{Event}
 use Rattle.narrow_core.specs.declared.event.Event.TheVariants.{Assert, Read, Narrow, Split, Join}
-use Rattle.narrow_core.specs.Actor.{ActorState, IsLiveAt, EachLive, fresh, live_weight}
-use Rattle.narrow_core.specs.Machine.{CoreState, AreSets, IsProperFact, IsProperActor, AreWeighed, IsCore, opened}
+use Rattle.narrow_core.specs.Actor.{ActorState, IsLiveAt, fresh}
+use Rattle.narrow_core.specs.Machine.{CoreState, AreSets, IsProperFact, IsProperActor, IsCore, SameOpening, opened}
 use Rattle.narrow_core.specs.Event.{IsAllowed, IsStep}
 use Rattle.narrow_core.specs.Run.{IsRun}
-use Rattle.narrow_core.specs.Bound.{IsWithinFact, IsWithinActor, HasSeenWithin, IsCandidate, AreWordsWithin, Bound, met_facts, IsAlone}
+use Rattle.narrow_core.specs.Bound.{IsWithinFact, IsWithinActor, HasSeenWithin, Bound, IsAlone}
 use Rattle.narrow_core.specs.Laws.{IsSchedule}
-use Rattle.narrow_core.proofs.Places.{All-none, All-cons, All-head, All-tail, All-weaken}
 use Rattle.narrow_core.proofs.Sights.{facts-mono, AreSets-network}
 use Rattle.narrow_core.proofs.Cores.{same_actor, core-step, weights-two}
-use Rattle.narrow_core.proofs.Bounds.{bound-step}
+use Rattle.narrow_core.proofs.Bounds.{full-fact, bound-step}
 
 -- ---- one step
 
--- what a step leaves as it was
-pub record Stays (s t : CoreState) : Type 0 where
-  pub nodes : t.nodes ≡ s.nodes
-  pub full : t.full ≡ s.full
-  pub opening : t.opening ≡ s.opening
-  pub opening_weight : t.opening_weight ≡ s.opening_weight
-  pub actors : length t.actors ≤ length s.actors + 1
+-- a machine that is known to be another
+same-after : (s t u : CoreState) → t ≡ u → SameOpening s u → SameOpening s t
+same-after s t u e h = subst (SameOpening s) (sym e) h
 
-stays-after : (s t u : CoreState) → t ≡ u → Stays s u → Stays s t
-stays-after s t u e h = subst (Stays s) (sym e) h
+-- every event leaves the opening as it was
+pub step-stays : (m : Meaning) (e : Event) (s t : CoreState) → IsStep m e s t → SameOpening s t
+step-stays m (Assert k fact) s t step = same-after s t _ step.after (record { nodes = refl; full = refl; opening = refl; opening_weight = refl })
+step-stays m (Read k e) s t step = same-after s t _ step.after (record { nodes = refl; full = refl; opening = refl; opening_weight = refl })
+step-stays m (Narrow k i j l) s t step = same-after s t _ step.after (record { nodes = refl; full = refl; opening = refl; opening_weight = refl })
+step-stays m (Split k left) s t step = same-after s t _ step.after (record { nodes = refl; full = refl; opening = refl; opening_weight = refl })
+step-stays m (Join k l) s t step = same-after s t _ step.after (record { nodes = refl; full = refl; opening = refl; opening_weight = refl })
 
-pub step-stays : (m : Meaning) (e : Event) (s t : CoreState) → IsStep m e s t → Stays s t
-step-stays m (Assert k fact) s t step = stays-after s t _ step.after (record { nodes = refl; full = refl; opening = refl; opening_weight = refl; actors = simp length-set (omega arith) })
-step-stays m (Read k e) s t step = stays-after s t _ step.after (record { nodes = refl; full = refl; opening = refl; opening_weight = refl; actors = simp length-set (omega arith) })
-step-stays m (Narrow k i j l) s t step = stays-after s t _ step.after (record { nodes = refl; full = refl; opening = refl; opening_weight = refl; actors = simp length-set (omega arith) })
-step-stays m (Split k left) s t step = stays-after s t _ step.after (record { nodes = refl; full = refl; opening = refl; opening_weight = refl; actors = simp (length-append, length-set) (omega arith) })
-step-stays m (Join k l) s t step = stays-after s t _ step.after (record { nodes = refl; full = refl; opening = refl; opening_weight = refl; actors = simp length-set (omega arith) })
+pub same-trans : (s t u : CoreState) → SameOpening s t → SameOpening t u → SameOpening s u
+same-trans s t u p q = record {
+  nodes = q.nodes ∙ p.nodes;
+  full = q.full ∙ p.full;
+  opening = q.opening ∙ p.opening;
+  opening_weight = q.opening_weight ∙ p.opening_weight;
+}
 
 -- ---- runs
 
@@ -59,13 +61,11 @@ pub record Keeps (m : Meaning) (s t : CoreState) : Type 0 where
   pub core : IsCore t
   pub full : t.full ≡ full_of m
   pub bound : Bound m t
-  pub opening : t.opening ≡ s.opening
-  pub nodes : t.nodes ≡ s.nodes
-  pub opening_weight : t.opening_weight ≡ s.opening_weight
+  pub same : SameOpening s t
 
 pub run-keeps : (m : Meaning) (events : List Event) (s t : CoreState) → IsCalculus m → s.full ≡ full_of m → IsCore s → Bound m s → IsRun m events s t → Keeps m s t
 run-keeps m [] s t calculus full core bound run =
-    subst (Keeps m s) (sym run) (record { core = core; full = full; bound = bound; opening = refl; nodes = refl; opening_weight = refl })
+    subst (Keeps m s) (sym run) (record { core = core; full = full; bound = bound; same = record { nodes = refl; full = refl; opening = refl; opening_weight = refl } })
 run-keeps m (e ∷ events) s t calculus full core bound run =
     let mid = run.0 in
     let stays = step-stays m e s mid run.2 in
@@ -74,9 +74,7 @@ run-keeps m (e ∷ events) s t calculus full core bound run =
       core = rest.core;
       full = rest.full;
       bound = rest.bound;
-      opening = rest.opening ∙ stays.opening;
-      nodes = rest.nodes ∙ stays.nodes;
-      opening_weight = rest.opening_weight ∙ stays.opening_weight;
+      same = same-trans s mid t stays rest.same;
     }
 
 -- ---- the opening
@@ -92,7 +90,7 @@ pub opened-core : (net : Network) (weight : ℕ) → 0 < weight → AreSets net.
 opened-core net weight some sets = record {
   opening = sets;
   words = sets;
-  actors = each-first (fresh weight net.words) (IsProperActor net.nodes net.full) (record { seen = sets; facts = All-none (IsProperFact net.nodes net.full) });
+  actors = each-first (fresh weight net.words) (IsProperActor net.nodes net.full) (record { seen = sets; facts = All-nil (IsProperFact net.nodes net.full) });
   weights = record {
     some = λ k a l. each-first (fresh weight net.words) (λ x. 0 < x.weight) some k a l.is_there;
     sum = omega arith;
@@ -107,10 +105,10 @@ opened-bound m net weight some =
       words_within = record {
         opening = AreWithin-refl net.words;
         actors = λ k b l. each-first a (IsWithinActor m net.nodes net.words)
-            (record { seen = AreWithin-refl net.words; facts = All-none (IsWithinFact m net.nodes net.words) }) k b l.is_there;
+            (record { seen = AreWithin-refl net.words; facts = All-nil (IsWithinFact m net.nodes net.words) }) k b l.is_there;
       };
       seen_within = λ k b l. each-first a (HasSeenWithin m net.nodes net.words)
-          (record { opening = AreWithin-refl net.words; facts = All-none (IsWithinFact m net.nodes net.words) }) k b l.is_there;
+          (record { opening = AreWithin-refl net.words; facts = All-nil (IsWithinFact m net.nodes net.words) }) k b l.is_there;
       weights = record {
         some = λ k b l. each-first a (λ x. 0 < x.weight) some k b l.is_there;
         sum = omega arith;
@@ -119,22 +117,12 @@ opened-bound m net weight some =
 
 -- ---- an actor alone
 
-met_facts-within : (m : Meaning) (n : ℕ) (words : List ℕ) (facts : List Fact) → AreWithin (met_facts m n words facts) words
-met_facts-within m n words [] = AreWithin-refl words
-met_facts-within m n words (f ∷ facts) =
-    let next = met_at m n words f.i f.j f.rel in
-    AreWithin-trans _ next words (met_facts-within m n next facts) (met_at-within m n words f.i f.j f.rel)
-
-length-met_facts : (m : Meaning) (n : ℕ) (words : List ℕ) (facts : List Fact) → length (met_facts m n words facts) ≡ length words
-length-met_facts m n words [] = refl
-length-met_facts m n words (f ∷ facts) = length-met_facts m n (met_at m n words f.i f.j f.rel) facts ∙ length-met_at m n words f.i f.j f.rel
-
 -- a network within the words and each fact is within the words met with the facts
-met_facts-keeps : (m : Meaning) (n : ℕ) (xs words : List ℕ) (facts : List Fact) → IsCalculus m → IsNetwork m n xs → AreWithin xs words → All (IsWithinFact m n xs) facts →
-    AreWithin xs (met_facts m n words facts)
-met_facts-keeps m n xs words [] calculus net w h = w
-met_facts-keeps m n xs words (f ∷ facts) calculus net w h =
-    met_facts-keeps m n xs (met_at m n words f.i f.j f.rel) facts calculus net
+met_with-keeps : (m : Meaning) (n : ℕ) (xs words : List ℕ) (facts : List Fact) → IsCalculus m → IsNetwork m n xs → AreWithin xs words → All (IsWithinFact m n xs) facts →
+    AreWithin xs (met_with m n words facts)
+met_with-keeps m n xs words [] calculus net w h = w
+met_with-keeps m n xs words (f ∷ facts) calculus net w h =
+    met_with-keeps m n xs (met_at m n words f.i f.j f.rel) facts calculus net
     (met_at-keeps m n xs words f.i f.j f.rel calculus net w (All-head (IsWithinFact m n xs) f facts h)) (All-tail (IsWithinFact m n xs) f facts h)
 
 met_at-network : (m : Meaning) (n : ℕ) (words : List ℕ) (i j x : ℕ) → IsNetwork m n words → IsNetwork m n (met_at m n words i j x)
@@ -144,22 +132,21 @@ met_at-network m n words i j x net = record {
 }
 
 -- the words met with the facts are within each of them
-met_facts-facts : (m : Meaning) (n : ℕ) (words : List ℕ) (facts : List Fact) → IsCalculus m → IsNetwork m n words → All (IsProperFact n (full_of m)) facts →
-    All (IsWithinFact m n (met_facts m n words facts)) facts
-met_facts-facts m n words [] calculus net p = All-none (IsWithinFact m n words)
-met_facts-facts m n words (f ∷ facts) calculus net p =
+met_with-facts : (m : Meaning) (n : ℕ) (words : List ℕ) (facts : List Fact) → IsCalculus m → IsNetwork m n words → All (IsProperFact n (full_of m)) facts →
+    All (IsWithinFact m n (met_with m n words facts)) facts
+met_with-facts m n words [] calculus net p = All-nil (IsWithinFact m n words)
+met_with-facts m n words (f ∷ facts) calculus net p =
     let next = met_at m n words f.i f.j f.rel in
-    let met = met_facts m n next facts in
+    let met = met_with m n next facts in
     let proper : IsProperFact n (full_of m) f = All-head (IsProperFact n (full_of m)) f facts p in
     let here : IsWithin (set_at m n next f.i f.j) f.rel =
     rw (set_at-met_at m n words f.i f.j f.rel calculus net proper.pair proper.within) (IsWithin-meet_r (set_at m n words f.i f.j) f.rel) in
     All-cons (IsWithinFact m n met) f facts
-    (IsWithin-trans _ _ _ (set_at-mono m n met next f.i f.j (met_facts-within m n next facts)) here)
-    (met_facts-facts m n next facts calculus (met_at-network m n words f.i f.j f.rel net) (All-tail (IsProperFact n (full_of m)) f facts p))
+    (IsWithin-trans _ _ _ (set_at-mono m n met next f.i f.j (met_with-within m n next facts)) here)
+    (met_with-facts m n next facts calculus (met_at-network m n words f.i f.j f.rel net) (All-tail (IsProperFact n (full_of m)) f facts p))
 
 full-facts : (m : Meaning) (n full : ℕ) (facts : List Fact) → full ≡ full_of m → All (IsProperFact n full) facts → All (IsProperFact n (full_of m)) facts
-full-facts m n full facts e = All-weaken (IsProperFact n full) (IsProperFact n (full_of m)) facts
-    (λ f p. record { pair = p.pair; within = subst (IsWithin f.rel) e p.within })
+full-facts m n full facts e = All-weaker (IsProperFact n full) (IsProperFact n (full_of m)) (λ f. full-fact m n full f e) facts
 
 alone-only : (s : CoreState) (k l : ℕ) (a b : ActorState) → IsCore s → IsLiveAt s.actors k a → a.weight ≡ s.opening_weight → IsLiveAt s.actors l b → l ≡ k
 alone-only s k l a b core p whole q = elim (cases_eq l k) [
@@ -171,14 +158,14 @@ alone-only s k l a b core p whole q = elim (cases_eq l k) [
 pub alone : (m : Meaning) (s : CoreState) (k : ℕ) (a : ActorState) → IsCalculus m → s.full ≡ full_of m → IsCore s → Bound m s → IsLiveAt s.actors k a → a.weight ≡ s.opening_weight → IsAlone m s k a
 alone m s k a calculus full core bound live whole =
     let n = s.nodes in
-    let met = met_facts m n s.opening a.mine in
+    let met = met_with m n s.opening a.mine in
     let net : IsNetwork m n s.words = AreSets-network m n s.full s.words full core.words in
     let opening : IsNetwork m n s.opening = AreSets-network m n s.full s.opening full core.opening in
     let proper = full-facts m n s.full a.mine full (core.actors k a live.is_there).facts in
-    let upper : AreWithin s.words met = met_facts-keeps m n s.words s.opening a.mine calculus net bound.words_within.opening (bound.words_within.actors k a live).facts in
-    let size : length met ≡ length s.opening = length-met_facts m n s.opening a.mine in
+    let upper : AreWithin s.words met = met_with-keeps m n s.words s.opening a.mine calculus net bound.words_within.opening (bound.words_within.actors k a live).facts in
+    let size : length met ≡ length s.opening = length-met_with m n s.opening a.mine in
     let lower : (c : List ℕ) → IsClosure m n met c → AreWithin c s.words = λ c closure.
-    let in_opening : AreWithin c s.opening = AreWithin-trans c met s.opening closure.within (met_facts-within m n s.opening a.mine) in
+    let in_opening : AreWithin c s.opening = AreWithin-trans c met s.opening closure.within (met_with-within m n s.opening a.mine) in
     bound.nothing_lost c (record {
       network = record { length_is = closure.length_is ∙ size ∙ opening.length_is; within = λ e. IsWithin-trans _ _ _ (in_opening.each e) (opening.within e) };
       closed = closure.closed;
@@ -186,7 +173,7 @@ alone m s k a calculus full core bound live whole =
       facts = λ l b t.
           let here : k ≡ l = sym (alone-only s k l a b core live whole t) in
           let e : a ≡ b = same_actor s.actors l a b (subst (λ (i : ℕ). slice_get s.actors i ≡ Some a) here live.is_there) t.is_there in
-          subst (λ (x : ActorState). All (IsWithinFact m n c) x.mine) e (facts-mono m n c met a.mine closure.within (met_facts-facts m n s.opening a.mine calculus opening proper));
+          subst (λ (x : ActorState). All (IsWithinFact m n c) x.mine) e (facts-mono m n c met a.mine closure.within (met_with-facts m n s.opening a.mine calculus opening proper));
     }) in
     record {
       only = λ l b t. alone-only s k l a b core live whole t;

@@ -1,30 +1,29 @@
 -- What actors have seen: the set of a pair after one edge or all edges are met, and facts under smaller words.
-use Rattle.std.proofs.Common.{◌≡◌, ◌≢◌, ℕ, zero, suc, ◌+◌, ◌<◌, ◌≤◌, cond, List, [], ◌∷◌, ◌++◌, length, get_or, set, refl, sym, ◌∙◌, ap, subst, arith, ◌⊎◌, inl, inr, Some, None, length-append}
+use Rattle.std.proofs.Common.{◌≡◌, ◌≢◌, ℕ, zero, suc, ◌<◌, ◌≤◌, cond, List, [], ◌∷◌, length, refl, ◌∙◌, ap, subst, arith, inl, inr}
 use Rattle.std.specs.Prelude.{bit_and, slice_index, slice_set}
-use Rattle.std.specs.List.{All, zip}
+use Rattle.std.specs.List.{All}
 use Rattle.std.proofs.lemmas.Bool.{cases_lt, lt-ltb, le-ltb}
-use Rattle.std.proofs.lemmas.List.{length-set, get_or-set_same, get_or-set_other}
-use Rattle.calculus_table.specs.Rel.{Has, IsWithin}
+use Rattle.std.proofs.lemmas.List.{length-set, get_or-set_same}
+use Rattle.std.proofs.lemmas.List.Elements.{All-weaker}
+use Rattle.calculus_table.specs.Rel.{IsWithin}
 use Rattle.calculus_table.specs.Meaning.{Meaning}
-use Rattle.calculus_table.specs.Composition.{full_of, composition, converse}
-use Rattle.calculus_table.specs.Calculus.{IsCalculus, IsTable}
+use Rattle.calculus_table.specs.Composition.{full_of}
 use Rattle.calculus_table.proofs.Sets.{IsWithin-refl, IsWithin-trans, IsWithin-meet, IsWithin-meet_l, IsWithin-meet_r, IsWithin-empty}
 use Rattle.calculus_table.proofs.Compositions.{converse-mono}
 use Rattle.network_words.specs.declared.fact.Fact.{Fact}
-use Rattle.network_words.specs.Edge.{edge_count, edge_at, IsProperPair, IsProperTriple}
-use Rattle.network_words.specs.Network.{IsNetwork, AreWithin, set_at, met_at}
+use Rattle.network_words.specs.Edge.{edge_count, edge_at, IsProperPair}
+use Rattle.network_words.specs.Network.{IsNetwork, AreWithin, set_at}
 use Rattle.network_words.proofs.Edges.{edge_at-lt}
-use Rattle.network_words.proofs.Networks.{AreWithin-refl, AreWithin-trans, set-cases, set_at-mono, set_at-straight, set_at-turned}
+use Rattle.network_words.proofs.Networks.{set-cases, set_at-mono, set_at-straight, set_at-turned}
 use Rattle.narrow_core.specs.Actor.{met_words}
-use Rattle.narrow_core.specs.Machine.{AreSets, IsProperFact}
+use Rattle.narrow_core.specs.Machine.{AreSets}
 use Rattle.narrow_core.specs.Event.{edge_between}
 use Rattle.narrow_core.specs.Bound.{IsWithinFact}
-use Rattle.narrow_core.proofs.Places.{All-weaken}
 
 -- ---- facts
 
 pub facts-mono : (m : Meaning) (n : ℕ) (xs ys : List ℕ) (facts : List Fact) → AreWithin xs ys → All (IsWithinFact m n ys) facts → All (IsWithinFact m n xs) facts
-facts-mono m n xs ys facts w = All-weaken (IsWithinFact m n ys) (IsWithinFact m n xs) facts (λ f h. IsWithin-trans _ _ _ (set_at-mono m n xs ys f.i f.j w) h)
+facts-mono m n xs ys facts w = All-weaker (IsWithinFact m n ys) (IsWithinFact m n xs) (λ f h. IsWithin-trans _ _ _ (set_at-mono m n xs ys f.i f.j w) h) facts
 
 -- ---- the edge between two nodes
 
@@ -109,12 +108,6 @@ met-within_r xs ys = record { each = met-each_r xs ys }
 
 pub met-keeps : (words xs ys : List ℕ) → AreWithin words xs → AreWithin words ys → AreWithin words (met_words xs ys)
 met-keeps words xs ys p q = record { each = λ e. met-each xs ys e (slice_index words e) (p.each e) (q.each e) }
-
-pub met-index : (xs ys : List ℕ) (e : ℕ) → length xs ≡ length ys → e < length xs → slice_index (met_words xs ys) e ≡ bit_and (slice_index xs e) (slice_index ys e)
-met-index [] ys e l b = absurd (omega arith)
-met-index (x ∷ xs) [] e l b = absurd (omega arith)
-met-index (x ∷ xs) (y ∷ ys) zero l b = refl
-met-index (x ∷ xs) (y ∷ ys) (suc e) l b = met-index xs ys e (omega arith) (omega arith)
 
 -- ---- sets for each edge
 

@@ -1,15 +1,16 @@
 -- The machine after each event, from what its parts are afterwards.
-use Rattle.std.proofs.Common.{◌≡◌, ◌≢◌, ℕ, ◌+◌, ◌-◌, ◌<◌, ◌≤◌, List, [], ◌∷◌, ◌++◌, length, get_or, set, refl, sym, ◌∙◌, ap, subst, arith, Some, None, length-append}
-use Rattle.std.specs.Prelude.{bit_and, slice_get, slice_index, slice_set}
+use Rattle.std.proofs.Common.{◌≡◌, ◌≢◌, ℕ, ◌<◌, List, [], ◌∷◌, ◌++◌, length, get_or, set, refl, sym, ◌∙◌, ap, subst, Some}
+use Rattle.std.specs.Prelude.{slice_get, slice_index}
+use Rattle.std.proofs.lemmas.List.{set-append_left}
 use Rattle.std.proofs.lemmas.Option.{slice_get_read, slice_get_within}
 use Rattle.calculus_table.specs.Meaning.{Meaning}
 use Rattle.calculus_table.specs.Composition.{composition}
 use Rattle.network_words.specs.declared.fact.Fact.{Fact}
 use Rattle.network_words.specs.Network.{Network, met_at, set_at}
-use Rattle.narrow_core.specs.Actor.{ActorState, IsLiveAt, fresh, seeing, stating, giving, joining, spent}
+use Rattle.narrow_core.specs.Actor.{ActorState, fresh, seeing, stating, giving, joining, spent}
 use Rattle.narrow_core.specs.Machine.{CoreState}
 use Rattle.narrow_core.specs.Event.{edge_between, Asserts, Reads, Narrows, Splits, Joins}
-use Rattle.narrow_core.proofs.Places.{get-set_other, get-set_same, set-append, get-more}
+use Rattle.narrow_core.proofs.Places.{get-set_other, get-more}
 
 -- the machine of these parts
 abbrev pub state_of : Network → List ℕ → ℕ → List ActorState → CoreState
@@ -91,7 +92,7 @@ splits net opening weight actors more k left a b c d h r p q o s =
       is_there = here;
       after =
           let one : d ≡ giving left a = s ∙ ap (giving left) same in
-          let two : set more k d ≡ set actors k d ++ b ∷ [] = ap (λ (xs : List ActorState). set xs k d) q ∙ set-append actors (b ∷ []) k d h in
+          let two : set more k d ≡ set actors k d ++ b ∷ [] = ap (λ (xs : List ActorState). set xs k d) q ∙ set-append_left actors (b ∷ []) k d h in
           let all : set more k d ≡ set actors k (giving left a) ++ fresh left a.seen ∷ [] = cc in
           ap (state_of net opening weight) all;
     }

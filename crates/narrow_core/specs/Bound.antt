@@ -1,10 +1,11 @@
 -- The bound: however the actors' steps interleave, the words contain the closure of what was stated and are within it.
-use Rattle.std.specs.Prelude.{◌≡◌, ℕ, List, [], ◌∷◌}
+use Rattle.std.specs.Prelude.{◌≡◌, ℕ, List}
 use Rattle.std.specs.List.{All}
 use Rattle.calculus_table.specs.Rel.{IsWithin}
 use Rattle.calculus_table.specs.Meaning.{Meaning}
 use Rattle.network_words.specs.declared.fact.Fact.{Fact}
-use Rattle.network_words.specs.Network.{IsNetwork, AreWithin, set_at, met_at}
+use Rattle.network_words.specs.Network.{IsNetwork, AreWithin, set_at}
+use Rattle.network_words.specs.Facts.{met_with}
 use Rattle.network_words.specs.Closure.{IsClosed, IsClosure}
 use Rattle.narrow_core.specs.Actor.{ActorState, IsLiveAt, EachLive}
 use Rattle.narrow_core.specs.Machine.{CoreState, AreWeighed}
@@ -48,16 +49,11 @@ pub record Bound (m : Meaning) (s : CoreState) : Type 0 where
 
 -- ---- an actor alone
 
--- the words met with the set of each fact
-abbrev pub met_facts : Meaning → ℕ → List ℕ → List Fact → List ℕ
-met_facts m n words [] = words
-met_facts m n words (fact ∷ facts) = met_facts m n (met_at m n words fact.i fact.j fact.rel) facts
-
 -- the actor at k is the only live one, and the words lie between the closure of the opening words met with its facts and
 -- those words met with its facts; so they have that closure
 pub record IsAlone (m : Meaning) (s : CoreState) (k : ℕ) (a : ActorState) : Type 0 where
   pub only : (l : ℕ) (b : ActorState) → IsLiveAt s.actors l b → l ≡ k
-  pub upper : AreWithin s.words (met_facts m s.nodes s.opening a.mine)
-  pub lower : (closure : List ℕ) → IsClosure m s.nodes (met_facts m s.nodes s.opening a.mine) closure → AreWithin closure s.words
+  pub upper : AreWithin s.words (met_with m s.nodes s.opening a.mine)
+  pub lower : (closure : List ℕ) → IsClosure m s.nodes (met_with m s.nodes s.opening a.mine) closure → AreWithin closure s.words
   pub same_closure :
-      (closure : List ℕ) → IsClosure m s.nodes (met_facts m s.nodes s.opening a.mine) closure → IsClosure m s.nodes s.words closure
+      (closure : List ℕ) → IsClosure m s.nodes (met_with m s.nodes s.opening a.mine) closure → IsClosure m s.nodes s.words closure

@@ -1,4 +1,4 @@
--- What holds of the machine after every list of events from its opening.
+-- What holds of the machine after every list of events from its opening, and wherever the bound holds.
 use Rattle.std.specs.Prelude.{◌≡◌, ℕ, ◌<◌, List}
 use Rattle.calculus_table.specs.Meaning.{Meaning}
 use Rattle.calculus_table.specs.Composition.{full_of}
@@ -6,7 +6,7 @@ use Rattle.calculus_table.specs.Calculus.{IsCalculus}
 use Rattle.network_words.specs.Network.{Network, IsNetwork}
 use Rattle.narrow_core.specs.declared.event.Event.{Event}
 use Rattle.narrow_core.specs.Actor.{ActorState, IsLiveAt}
-use Rattle.narrow_core.specs.Machine.{CoreState, opened}
+use Rattle.narrow_core.specs.Machine.{CoreState, IsCore, opened}
 use Rattle.narrow_core.specs.Run.{IsRun}
 use Rattle.narrow_core.specs.Bound.{Bound, IsAlone}
 
@@ -28,3 +28,9 @@ abbrev pub TheWholeWeightIsAlone : Type 0
 TheWholeWeightIsAlone =
     (m : Meaning) (net : Network) (weight : ℕ) (events : List Event) (s : CoreState) (k : ℕ) (a : ActorState) →
     IsSchedule m net weight events s → IsLiveAt s.actors k a → a.weight ≡ weight → IsAlone m s k a
+
+-- where the bound holds, a live actor with the whole weight is alone
+abbrev pub TheBoundMakesAlone : Type 0
+TheBoundMakesAlone =
+    (m : Meaning) (s : CoreState) (k : ℕ) (a : ActorState) →
+    IsCalculus m → s.full ≡ full_of m → IsCore s → Bound m s → IsLiveAt s.actors k a → a.weight ≡ s.opening_weight → IsAlone m s k a

@@ -54,3 +54,10 @@ pub record IsCore (s : CoreState) : Type 0 where
   pub words : AreSets s.nodes s.full s.words
   pub actors : (k : ℕ) (a : ActorState) → slice_get s.actors k ≡ Some a → IsProperActor s.nodes s.full a
   pub weights : AreWeighed s.opening_weight s.actors
+
+-- what no event changes: the nodes, the set of all base relations, and what the machine was opened with
+pub record SameOpening (old new : CoreState) : Type 0 where
+  pub nodes : new.nodes ≡ old.nodes
+  pub full : new.full ≡ old.full
+  pub opening : new.opening ≡ old.opening
+  pub opening_weight : new.opening_weight ≡ old.opening_weight

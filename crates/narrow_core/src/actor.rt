@@ -22,7 +22,7 @@ impl Model for Actor {
 }
 
 impl Actor {
-    ghost use Rattle.std.specs.Prelude.{◌≡◌, ◌+◌, ◌≤◌, ◌<◌, ◌^◌, length, slice_index, IfOk, IfErr, IsErr};
+    ghost use Rattle.std.specs.Prelude.{◌≡◌, ◌+◌, ◌≤◌, ◌<◌, ◌^◌, length, slice_index, IfOk, OnErr, OnOk};
     ghost use Rattle.calculus_table.specs.Rel.{IsWithin};
     ghost use Rattle.calculus_table.specs.Composition.{full_of};
     ghost use Rattle.network_words.specs.Edge.{IsProperPair};
@@ -100,8 +100,8 @@ impl Actor {
 
     /// Adds a fact to those that the actor has stated.
     pub(crate) fn state(&mut self, fact: Fact) -> Result<(), Memory>
-        ensures stated { IfOk result (λ _. self.new ≡ stating fact self.old) }
-        ensures memory { IfErr result (λ _. self.new ≡ self.old) }
+        ensures stated { OnOk result (self.new ≡ stating fact self.old) }
+        ensures memory { OnErr result (self.new ≡ self.old) }
     {
         self.mine.push(fact).map_err(|_| Memory)
     }
@@ -123,13 +123,12 @@ impl Actor {
 
     /// This actor with all that the other has.
     pub(crate) fn joined(&self, other: &Actor) -> Result<Actor, Memory>
-        requires fits { self.now.weight + other.now.weight < 2 ^ 32 }
-        requires same { length self.now.seen ≡ length other.now.seen }
+        requires { self.now.weight + other.now.weight < 2 ^ 32 }
         ensures { IfOk result (λ a. a ≡ joining self.now other.now) }
     {
         let alloc = *self.mine.allocator();
-        let mine = chained(alloc, &self.mine, &other.mine)?;
-        let seen = met(alloc, &self.seen, &other.seen)?;
+        let mine = chained(alloc, &self.mine, &other.mine).map_err(|_| Memory)?;
+        let seen = met(alloc, &self.seen, &other.seen).map_err(|_| Memory)?;
         Ok(Actor {
             is_live: self.is_live,
             weight: self.weight + other.weight,

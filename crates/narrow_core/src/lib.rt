@@ -8,7 +8,6 @@ mod lists;
 mod machine;
 #[cfg(test)]
 mod tests;
-mod words;
 
 pub use actor::Actor;
 pub use event::Event;

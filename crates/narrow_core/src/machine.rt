@@ -1,6 +1,5 @@
 use crate::actor::Actor;
 use crate::event::Event;
-use crate::words::{copied, edge_between};
 use calculus_table::{Compose, Memory, Rel};
 use network_words::{Fact, Net};
 use std::alloc::Global;
@@ -11,7 +10,7 @@ use std::marker::Model;
 pub struct Core {
     opening: Vec<u64>,
     opening_weight: u32,
-    words: Net,
+    net: Net,
     actors: Vec<Actor>,
 }
 
@@ -22,21 +21,21 @@ impl Model for Core {
     ghost Value = { CoreState };
 
     ghost view = { λ a. record {
-      nodes = a.words.nodes;
-      full = a.words.full;
+      nodes = a.net.nodes;
+      full = a.net.full;
       opening = a.opening.items;
       opening_weight = a.opening_weight;
-      words = a.words.words;
+      words = a.net.words;
       actors = a.actors.items;
     } };
 
     ghost invariant = { λ a. record {
       core : IsCore (record {
-        nodes = a.words.nodes;
-        full = a.words.full;
+        nodes = a.net.nodes;
+        full = a.net.full;
         opening = a.opening.items;
         opening_weight = a.opening_weight;
-        words = a.words.words;
+        words = a.net.words;
         actors = a.actors.items;
       });
       fits : a.opening_weight < 2 ^ 32;
@@ -44,16 +43,15 @@ impl Model for Core {
 }
 
 impl Core {
-    ghost use Rattle.std.specs.Prelude.{◌≡◌, ◌≢◌, ℕ, ◌+◌, ◌<◌, ◌≤◌, ◌↔◌, ◌^◌, List, length, take, slice_get, slice_index, IfOk, IfErr, IsTrue, Some, MatchOption};
+    ghost use Rattle.std.specs.Prelude.{◌≡◌, ℕ, ◌<◌, ◌↔◌, ◌^◌, length, take, slice_index, IfOk, OnErr, OnOk, IsTrue, Some, MatchOption};
     ghost use Rattle.calculus_table.specs.Rel.{IsWithin};
     ghost use Rattle.calculus_table.specs.Meaning.{Meaning};
     ghost use Rattle.calculus_table.specs.Composition.{full_of};
-    ghost use Rattle.network_words.specs.Network.{Network};
-    ghost use Rattle.network_words.specs.Edge.{IsProperPair};
-    ghost use Rattle.narrow_core.specs.Actor.{ActorState, IsLiveAt};
-    ghost use Rattle.narrow_core.specs.Machine.{CoreState, IsCore, IsProperFact, opened};
-    ghost use Rattle.narrow_core.specs.Event.{IsAllowed, IsStep, HasLive, HasMore, MayAssert, MayRead, MayNarrow, MaySplit, MayJoin, Asserts, Reads, Narrows, Splits, Joins};
-    ghost use Rattle.narrow_core.specs.Run.{IsRun, StopsAt};
+    ghost use Rattle.network_words.specs.Edge.{edge_count, IsProperPair};
+    ghost use Rattle.narrow_core.specs.Actor.{IsLiveAt};
+    ghost use Rattle.narrow_core.specs.Machine.{CoreState, IsCore, IsProperFact, SameOpening, opened};
+    ghost use Rattle.narrow_core.specs.Event.{edge_between, IsAllowed, IsStep, HasLive, HasMore, MayAssert, MayRead, MayNarrow, MaySplit, MayJoin, Asserts, Reads, Narrows, Splits, Joins};
+    ghost use Rattle.narrow_core.specs.Run.{IsRun, StopsAt, TakesMemory, WantsMemory};
     ghost use Rattle.narrow_core.specs.Bound.{Bound};
 
     /// The machine over `net`, with one live actor, number 0, that has the whole weight and has seen the network.
@@ -64,23 +62,37 @@ impl Core {
         ensures bound { IfOk result (λ core. (m : Meaning) → Bound m core) }
     {
         let opening = Vec::from_slice(alloc, net.words()).map_err(|_| Memory)?;
-        let words = copied(alloc, net)?;
         let actor = Actor::new(alloc, weight, net.words())?;
         let mut actors = Vec::new(alloc);
         actors.push(actor).map_err(|_| Memory)?;
         Ok(Core {
             opening,
             opening_weight: weight,
-            words,
+            net: net.copy()?,
             actors,
         })
     }
 
+    /// The sets of all edges at the opening, in edge order.
+    pub fn opening(&self) -> &[u64]
+        ensures { result.now ≡ self.now.opening }
+    {
+        &self.opening
+    }
+
+    /// The weight that the first actor had at the opening, and all live actors have together.
+    pub fn opening_weight(&self) -> u32
+        ensures { result ≡ self.now.opening_weight }
+    {
+        self.opening_weight
+    }
+
     /// The sets of all edges as they stand, in edge order.
     pub fn words(&self) -> &[u64]
-        ensures { result.now ≡ self.now.words }
+        ensures value { result.now ≡ self.now.words }
+        ensures core { IsCore self.now }
     {
-        self.words.words()
+        self.net.words()
     }
 
     /// The live actor of this number.
@@ -98,7 +110,7 @@ impl Core {
     {
         match *event {
             Event::Assert { actor, fact } => self.is_live(actor) && self.is_proper(fact),
-            Event::Read { actor, edge } => self.is_live(actor) && edge < self.words.edges(),
+            Event::Read { actor, edge } => self.is_live(actor) && edge < self.net.edges(),
             Event::Narrow { actor, i, j, k } => {
                 self.is_live(actor) && self.is_pair(i, j) && self.is_pair(j, k) && i != k
             }
@@ -109,16 +121,17 @@ impl Core {
         }
     }
 
-    /// Makes one event. Where memory is wanting the machine is as before.
+    /// Makes one event. Where memory is wanting the machine is as before. Reading and narrowing take none.
     pub fn step<C: Compose>(&mut self, c: &C, event: &Event) -> Result<(), Memory>
         requires allowed { IsAllowed self.old event.now }
         requires full { self.old.full ≡ full_of (C.meaning c.now) }
-        requires few { length self.old.actors < 2 ^ 31 }
-        ensures stepped { IfOk result (λ _. IsStep (C.meaning c.now) event.now self.old self.new) }
+        ensures stepped { OnOk result (IsStep (C.meaning c.now) event.now self.old self.new) }
         ensures bound { Bound (C.meaning c.now) self.old → Bound (C.meaning c.now) self.new }
-        ensures memory { IfErr result (λ _. self.new ≡ self.old) }
+        ensures memory { OnErr result (self.new ≡ self.old) }
+        ensures takes { OnErr result (TakesMemory event.now) }
+        ensures same { SameOpening self.old self.new }
     {
-        let (_bases, _words) = (c.size(), &self.words);
+        let (_bases, _net) = (c.size(), &self.net);
         match *event {
             Event::Assert { actor, fact } => self.assert(c, actor, fact)?,
             Event::Read { actor, edge } => self.read(actor, edge),
@@ -133,11 +146,12 @@ impl Core {
     /// is where the first of them left it.
     pub fn run<C: Compose>(&mut self, c: &C, events: &[Event]) -> Result<u32, Memory>
         requires full { self.old.full ≡ full_of (C.meaning c.now) }
-        requires few { length self.old.actors + length events.now < 2 ^ 31 }
+        requires few { length events.now < 2 ^ 32 }
         ensures ran { IfOk result (λ steps. IsRun (C.meaning c.now) (take steps events.now) self.old self.new) }
         ensures stops { IfOk result (λ steps. StopsAt events.now steps self.new) }
         ensures bound { Bound (C.meaning c.now) self.old → Bound (C.meaning c.now) self.new }
-        ensures memory { IfErr result (λ _. (steps : ℕ) × (steps ≤ length events.now) × IsRun (C.meaning c.now) (take steps events.now) self.old self.new) }
+        ensures memory { OnErr result (WantsMemory (C.meaning c.now) events.now self.old self.new) }
+        ensures same { SameOpening self.old self.new }
     {
         for (done, event) in events.iter().enumerate() {
             if !self.may(event) {
@@ -168,27 +182,40 @@ impl Core {
     fn is_pair(&self, i: u32, j: u32) -> bool
         ensures { IsTrue result ↔ IsProperPair self.now.nodes i j }
     {
-        i < self.words.nodes() && j < self.words.nodes() && i != j
+        i < self.net.nodes() && j < self.net.nodes() && i != j
+    }
+
+    /// The number of the edge between two nodes, in whichever order.
+    fn edge_between(&self, i: u32, j: u32) -> u32
+        requires { IsProperPair self.now.nodes i j }
+        ensures value { result ≡ edge_between self.now.nodes i j }
+        ensures below { result < edge_count self.now.nodes }
+    {
+        if i < j {
+            self.net.edge(i, j)
+        } else {
+            self.net.edge(j, i)
+        }
     }
 
     fn is_proper(&self, fact: Fact) -> bool
         ensures { IsTrue result ↔ IsProperFact self.now.nodes self.now.full fact }
     {
-        self.is_pair(fact.i, fact.j) && fact.rel.within(self.words.full())
+        self.is_pair(fact.i, fact.j) && fact.rel.within(self.net.full())
     }
 
     fn assert<C: Compose>(&mut self, c: &C, actor: u32, fact: Fact) -> Result<(), Memory>
         requires allowed { MayAssert self.old actor fact }
         requires full { self.old.full ≡ full_of (C.meaning c.now) }
-        ensures asserted { IfOk result (λ _. Asserts (C.meaning c.now) actor fact self.old self.new) }
-        ensures memory { IfErr result (λ _. self.new ≡ self.old) }
+        ensures asserted { OnOk result (Asserts (C.meaning c.now) actor fact self.old self.new) }
+        ensures memory { OnErr result (self.new ≡ self.old) }
     {
         let Fact { i, j, rel } = fact;
-        let edge = edge_between(&self.words, i, j);
+        let edge = self.edge_between(i, j);
         let actor = &mut self.actors[actor as usize];
         actor.state(fact)?;
-        self.words.narrow(c, i, j, rel);
-        actor.see(edge, self.words.word(edge));
+        self.net.narrow(c, i, j, rel);
+        actor.see(edge, self.net.word(edge));
         Ok(())
     }
 
@@ -196,7 +223,7 @@ impl Core {
         requires { MayRead self.old actor edge }
         ensures { Reads actor edge self.old self.new }
     {
-        self.actors[actor as usize].see(edge, self.words.word(edge));
+        self.actors[actor as usize].see(edge, self.net.word(edge));
     }
 
     fn narrow<C: Compose>(&mut self, c: &C, actor: u32, i: u32, j: u32, k: u32)
@@ -204,18 +231,18 @@ impl Core {
         requires full { self.old.full ≡ full_of (C.meaning c.now) }
         ensures { Narrows (C.meaning c.now) actor i j k self.old self.new }
     {
-        let edge = edge_between(&self.words, i, k);
+        let edge = self.edge_between(i, k);
         let actor = &mut self.actors[actor as usize];
-        let first = actor.seen_between(c, &self.words, i, j);
-        let second = actor.seen_between(c, &self.words, j, k);
-        self.words.narrow(c, i, k, c.compose(first, second));
-        actor.see(edge, self.words.word(edge));
+        let first = actor.seen_between(c, &self.net, i, j);
+        let second = actor.seen_between(c, &self.net, j, k);
+        self.net.narrow(c, i, k, c.compose(first, second));
+        actor.see(edge, self.net.word(edge));
     }
 
     fn split(&mut self, actor: u32, left: u32) -> Result<(), Memory>
         requires { MaySplit self.old actor left }
-        ensures split { IfOk result (λ _. Splits actor left self.old self.new) }
-        ensures memory { IfErr result (λ _. self.new ≡ self.old) }
+        ensures split { OnOk result (Splits actor left self.old self.new) }
+        ensures memory { OnErr result (self.new ≡ self.old) }
     {
         let actor = actor as usize;
         let new = self.actors[actor].split(left)?;
@@ -226,8 +253,8 @@ impl Core {
 
     fn join(&mut self, actor: u32, other: u32) -> Result<(), Memory>
         requires { MayJoin self.old actor other }
-        ensures joined { IfOk result (λ _. Joins actor other self.old self.new) }
-        ensures memory { IfErr result (λ _. self.new ≡ self.old) }
+        ensures joined { OnOk result (Joins actor other self.old self.new) }
+        ensures memory { OnErr result (self.new ≡ self.old) }
     {
         let (actor, other) = (actor as usize, other as usize);
         let joined = self.actors[actor].joined(&self.actors[other])?;

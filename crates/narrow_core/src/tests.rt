@@ -1,6 +1,5 @@
-ghost use Rattle.std.specs.Prelude.{◌≡◌, ◌<◌, ◌≤◌, length, IfOk};
+ghost use Rattle.std.specs.Prelude.{◌≡◌, ◌<◌, IfOk};
 ghost use Rattle.calculus_table.specs.Composition.{full_of};
-ghost use Rattle.narrow_core.specs.Machine.{CoreState};
 
 use super::*;
 use calculus_builtin::rcc8;
@@ -21,8 +20,7 @@ const FULL: u64 = (1 << 8) - 1;
 /// The machine over three nodes of which nothing is known.
 fn open(alloc: Global, c: &Calculus, weight: u32) -> Result<Core, Memory>
     requires { 0 < weight }
-    ensures full { IfOk result (λ core. core.full ≡ full_of c.now.meaning) }
-    ensures actors { IfOk result (λ core. length core.actors ≡ 1) }
+    ensures { IfOk result (λ core. core.full ≡ full_of c.now.meaning) }
 {
     match Net::new(alloc, 3, c.full()) {
         Ok(net) => Core::new(alloc, &net, weight),
@@ -229,5 +227,7 @@ fn one_step_makes_an_event(rt: HostRuntime) -> Result<(), Fail> {
     assert!(rt; core.may(&event));
     core.step(&c, &event)?;
     assert_eq!(rt; core.words(), [FULL, NTPP, FULL].as_slice());
+    assert_eq!(rt; core.opening(), [FULL, FULL, FULL].as_slice());
+    assert_eq!(rt; core.opening_weight(), 1);
     Ok(())
 }

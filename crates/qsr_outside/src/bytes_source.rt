@@ -1,5 +1,5 @@
-ghost use Rattle.std.specs.Prelude.{◌≡◌, ◌↔◌, ◌++◌, ◌<◌, ◌≤◌, List, [], None, Some, Contains, length, min, take, drop, IfOk, IfSome, IsErr, OnErr};
-ghost use Rattle.std.specs.Io.KnownBytes.{Consumes, IsAtEnd, Keeps};
+ghost use Rattle.std.specs.Prelude.{◌≡◌, ◌↔◌, ◌++◌, ◌<◌, ◌≤◌, [], None, Some, Contains, length, min, take, drop, IfOk, IsErr, OnErr};
+ghost use Rattle.std.specs.Io.KnownBytes.{Consumes};
 ghost use Rattle.qsr_outside.specs.Counts.{count_after, Rose, RoseBy};
 ghost use Rattle.qsr_outside.specs.InMemory.{after_call, after_failed_call, no_calls};
 

@@ -1,6 +1,6 @@
-ghost use Rattle.std.specs.Prelude.{◌≡◌, ◌↔◌, ◌⊎◌, ◌++◌, ◌<◌, ◌≤◌, List, [], None, Some, Contains, length, min, take, drop, position, slice_get, unwrap_or, IfOk, IfNone, IfSome, IsErr, OnErr, OnOk};
+ghost use Rattle.std.specs.Prelude.{◌≡◌, ◌↔◌, ◌⊎◌, ◌++◌, ◌<◌, ◌≤◌, [], None, Some, Contains, length, min, take, drop, position, slice_get, unwrap_or, IfOk, IfNone, IfSome, IsErr, OnErr, OnOk};
 ghost use Rattle.std.specs.FinMap as map;
-ghost use Rattle.std.specs.Io.KnownBytes.{Consumes, IsAtEnd};
+ghost use Rattle.std.specs.Io.KnownBytes.{Consumes};
 ghost use Rattle.qsr_outside.specs.Counts.{count_after, Rose, RoseBy};
 ghost use Rattle.qsr_outside.specs.Documents.{absent_openings_after, document, CountsOpening};
 ghost use Rattle.qsr_outside.specs.InMemory.{after_call, after_failed_call, no_calls};

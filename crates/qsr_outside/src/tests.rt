@@ -1,4 +1,4 @@
-ghost use Rattle.std.specs.Prelude.{◌≡◌, ◌≤◌, IfOk, IfSome, IsSomeAnd, IsTrue, length};
+ghost use Rattle.std.specs.Prelude.{◌≤◌, IfOk, IfSome, IsSomeAnd, IsTrue, length};
 ghost use Rattle.std.specs.Io.KnownBytes.{Appends};
 ghost use Rattle.qsr_outside.specs.Counts.{Rose};
 ghost use Rattle.qsr_outside.specs.Reading.{IsOkOrMemory};
@@ -22,7 +22,7 @@ struct ReadCase {
 }
 
 #[test]
-fn read_all_gives_all_or_stops_for_its_cause(rt: HostRuntime) -> Result<(), Fail> {
+fn read_all_gives_all_that_the_source_has(rt: HostRuntime) -> Result<(), Fail> {
     let cases = [
         ReadCase {
             bytes: b"",
@@ -48,6 +48,13 @@ fn read_all_gives_all_or_stops_for_its_cause(rt: HostRuntime) -> Result<(), Fail
             stop: None,
             given: 5,
         },
+    ];
+    check_reads(&rt, rt.alloc(), &cases)
+}
+
+#[test]
+fn read_all_stops_above_the_limit(rt: HostRuntime) -> Result<(), Fail> {
+    let cases = [
         ReadCase {
             bytes: b"abcde",
             piece: 2,
@@ -64,6 +71,13 @@ fn read_all_gives_all_or_stops_for_its_cause(rt: HostRuntime) -> Result<(), Fail
             stop: Some(ReadStop::TooLong),
             given: 2,
         },
+    ];
+    check_reads(&rt, rt.alloc(), &cases)
+}
+
+#[test]
+fn read_all_stops_where_a_read_fails(rt: HostRuntime) -> Result<(), Fail> {
+    let cases = [
         ReadCase {
             bytes: b"abcde",
             piece: 2,
@@ -89,8 +103,12 @@ fn read_all_gives_all_or_stops_for_its_cause(rt: HostRuntime) -> Result<(), Fail
             given: 5,
         },
     ];
-    for case in &cases {
-        check_read(&rt, rt.alloc(), case)?;
+    check_reads(&rt, rt.alloc(), &cases)
+}
+
+fn check_reads(rt: &impl Abort, alloc: Global, cases: &[ReadCase]) -> Result<(), Fail> {
+    for case in cases {
+        check_read(rt, alloc, case)?;
     }
     Ok(())
 }
@@ -124,7 +142,7 @@ struct WriteCase {
 }
 
 #[test]
-fn write_all_writes_all_or_a_part(rt: HostRuntime) -> Result<(), Fail> {
+fn write_all_writes_all_where_there_is_room(rt: HostRuntime) -> Result<(), Fail> {
     let cases = [
         WriteCase {
             bytes: b"",
@@ -147,6 +165,13 @@ fn write_all_writes_all_or_a_part(rt: HostRuntime) -> Result<(), Fail> {
             failing: &[],
             held: b"abcde",
         },
+    ];
+    check_writes(&rt, rt.alloc(), &cases)
+}
+
+#[test]
+fn write_all_writes_a_part_where_a_write_fails(rt: HostRuntime) -> Result<(), Fail> {
+    let cases = [
         WriteCase {
             bytes: b"abcde",
             piece: 2,
@@ -169,8 +194,12 @@ fn write_all_writes_all_or_a_part(rt: HostRuntime) -> Result<(), Fail> {
             held: b"",
         },
     ];
-    for case in &cases {
-        check_write(&rt, rt.alloc(), case)?;
+    check_writes(&rt, rt.alloc(), &cases)
+}
+
+fn check_writes(rt: &impl Abort, alloc: Global, cases: &[WriteCase]) -> Result<(), Fail> {
+    for case in cases {
+        check_write(rt, alloc, case)?;
     }
     Ok(())
 }

@@ -7,5 +7,6 @@ returns c = record {
   every_schedule_keeps_the_bound = λ m net weight events s h. (schedule-keeps m net weight events s h).bound;
   the_whole_weight_is_alone = λ m net weight events s k a h live whole.
       let kept = schedule-keeps m net weight events s h in
-      alone m s k a h.calculus kept.full kept.core kept.bound live (whole ∙ sym kept.opening_weight);
+      alone m s k a h.calculus kept.full kept.core kept.bound live (whole ∙ sym kept.same.opening_weight);
+  the_bound_makes_alone = alone;
 }

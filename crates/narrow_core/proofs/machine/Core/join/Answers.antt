@@ -1,5 +1,4 @@
-use Rattle.std.proofs.Common.{◌≡◌, ◌+◌, ◌<◌, ◌≤◌, length, set, ◌∙◌, sym, arith, rules}
-use Rattle.std.proofs.lemmas.List.{length-set}
+use Rattle.std.proofs.Common.{◌+◌, ◌<◌, ◌≤◌, length, arith, rules}
 use Rattle.std.proofs.lemmas.Option.{slice_get_within}
 use Rattle.narrow_core.proofs.Cores.{core-joins, weights-two, live_here}
 use Rattle.narrow_core.proofs.Steps.{joins, there}
@@ -17,10 +16,7 @@ joined-requires c =
     let both : c.index.result.now.weight + c.index-2.result.now.weight ≤ c.self.inside.opening_weight =
     weights-two c.self.inside.opening_weight actors c.args.actor c.args.other c.index.result.now c.index-2.result.now may.differ
     (live_here _ c.args.actor c.index.result.now may.live first) (live_here _ c.args.other c.index-2.result.now may.other_live second) core.weights in
-    record {
-      fits = omega arith;
-      same = (core.actors c.args.actor c.index.result.now first).seen.length_is ∙ sym (core.actors c.args.other c.index-2.result.now second).seen.length_is;
-    }
+    omega arith
 
 pub index_mut-requires : goal.index_mut-requires
 index_mut-requires c =
@@ -42,7 +38,7 @@ invariant_of-self c =
     let may = rw (← c.self.view_is) at c.requires in
     let below : c.args.actor < length actors = slice_get_within actors c.args.actor may.live.actor may.live.live.is_there in
     let other_below : c.args.other < length actors = slice_get_within actors c.args.other may.other_live.actor may.other_live.live.is_there in
-    let step = joins c.self.inside.words c.self.inside.opening.items c.self.inside.opening_weight actors c.args.actor c.args.other
+    let step = joins c.self.inside.net c.self.inside.opening.items c.self.inside.opening_weight actors c.args.actor c.args.other
     c.index.result.now c.index-2.result.now c.in_ok-joined.joined c.index_mut-2.result.now c.spend.new.self may.differ below other_below
     c.index.ensures c.index-2.ensures c.in_ok-joined.ensures c.index_mut-2.ensures.value c.spend.ensures in
     record { core = core-joins c.args.actor c.args.other _ _ c.self.invariant.core may step; fits = c.self.invariant.fits }
@@ -53,6 +49,6 @@ returns-clause-joined c =
     let may = rw (← c.self.view_is) at c.requires in
     let below : c.args.actor < length actors = slice_get_within actors c.args.actor may.live.actor may.live.live.is_there in
     let other_below : c.args.other < length actors = slice_get_within actors c.args.other may.other_live.actor may.other_live.live.is_there in
-    rw (← c.self.view_is) (joins c.self.inside.words c.self.inside.opening.items c.self.inside.opening_weight actors c.args.actor c.args.other
+    rw (← c.self.view_is) (joins c.self.inside.net c.self.inside.opening.items c.self.inside.opening_weight actors c.args.actor c.args.other
     c.index.result.now c.index-2.result.now c.in_ok-joined.joined c.index_mut-2.result.now c.spend.new.self may.differ below other_below
     c.index.ensures c.index-2.ensures c.in_ok-joined.ensures c.index_mut-2.ensures.value c.spend.ensures)

@@ -7,5 +7,5 @@ use Rattle.narrow_core.proofs.machine.Core.new.Goals as goal
 
 pub returns-clause-bound : goal.returns-clause-bound
 returns-clause-bound c =
-    let e : state_of c.in_ok-words.words c.in_ok-opening.opening.items c.args.weight c.push.new.self.items ≡ opened c.args.net.now c.args.weight = search rules in
+    let e : state_of c.in_ok-copy.field-0 c.in_ok-opening.opening.items c.args.weight c.push.new.self.items ≡ opened c.args.net.now c.args.weight = search rules in
     λ m. subst (Bound m) (sym e) (opened-bound m c.args.net.now c.args.weight c.requires.some)

@@ -9,7 +9,7 @@ invariant_of-self c =
     let actors = c.self.inside.actors.items in
     let live = rw (← c.self.view_is) at c.requires.live.live.is_there in
     let below : c.args.actor < length actors = slice_get_within actors c.args.actor c.requires.live.actor live in
-    let step = reads c.self.inside.words c.self.inside.opening.items c.self.inside.opening_weight actors c.args.actor c.args.edge c.word.result
+    let step = reads c.self.inside.net c.self.inside.opening.items c.self.inside.opening_weight actors c.args.actor c.args.edge c.word.result
     c.index_mut.result.now c.see.new.self below c.index_mut.ensures.value c.word.ensures c.see.ensures in
     record { core = core-reads c.args.actor c.args.edge _ _ c.self.invariant.core step; fits = c.self.invariant.fits }
 
@@ -18,5 +18,5 @@ returns c =
     let actors = c.self.inside.actors.items in
     let live = rw (← c.self.view_is) at c.requires.live.live.is_there in
     let below : c.args.actor < length actors = slice_get_within actors c.args.actor c.requires.live.actor live in
-    rw (← c.self.view_is) (reads c.self.inside.words c.self.inside.opening.items c.self.inside.opening_weight actors c.args.actor c.args.edge c.word.result
+    rw (← c.self.view_is) (reads c.self.inside.net c.self.inside.opening.items c.self.inside.opening_weight actors c.args.actor c.args.edge c.word.result
     c.index_mut.result.now c.see.new.self below c.index_mut.ensures.value c.word.ensures c.see.ensures)

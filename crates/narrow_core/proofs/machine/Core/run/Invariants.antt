@@ -1,5 +1,5 @@
-use Rattle.std.proofs.Common.{◌≡◌, ◌+◌, ◌≤◌, length, take}
-use Rattle.calculus_table.specs.Composition.{full_of}
+use Rattle.std.proofs.Common.{take}
+use Rattle.narrow_core.specs.Machine.{SameOpening}
 use Rattle.narrow_core.specs.Run.{IsRun}
 use Rattle.narrow_core.specs.Bound.{Bound}
 use Rattle.narrow_core.proofs.machine.Core.run.Given as goal
@@ -7,7 +7,6 @@ use Rattle.narrow_core.proofs.machine.Core.run.Given as goal
 abbrev pub invariant-loop-done : goal.invariant-loop-done
 invariant-loop-done g l = record {
   run : IsRun (g.C.Compose.meaning l.c) (take l.done l.events) l.fn.self l.self;
-  full : l.self.full ≡ full_of (g.C.Compose.meaning l.c);
-  few : length l.self.actors ≤ length l.fn.self.actors + l.done;
+  same : SameOpening l.fn.self l.self;
   bound : Bound (g.C.Compose.meaning l.c) l.fn.self → Bound (g.C.Compose.meaning l.c) l.self;
 }

@@ -10,7 +10,7 @@ invariant_of-self-2 c =
     let may = rw (← c.self.view_is) at c.requires in
     let below : c.args.actor < length actors = slice_get_within actors c.args.actor may.live.actor may.live.live.is_there in
     let items : c.push.new.self.items ≡ actors ++ c.in_ok-new.new ∷ [] = search rules in
-    let step = splits c.self.inside.words c.self.inside.opening.items c.self.inside.opening_weight actors c.push.new.self.items c.args.actor c.args.left
+    let step = splits c.self.inside.net c.self.inside.opening.items c.self.inside.opening_weight actors c.push.new.self.items c.args.actor c.args.left
     c.index.result.now c.in_ok-new.new c.index_mut.result.now c.give.new.self below c.index.ensures c.in_ok-new.ensures items c.index_mut.ensures.value c.give.ensures in
     record { core = core-splits c.args.actor c.args.left _ _ c.self.invariant.core may step; fits = c.self.invariant.fits }
 
@@ -20,5 +20,5 @@ returns-clause-split c =
     let may = rw (← c.self.view_is) at c.requires in
     let below : c.args.actor < length actors = slice_get_within actors c.args.actor may.live.actor may.live.live.is_there in
     let items : c.push.new.self.items ≡ actors ++ c.in_ok-new.new ∷ [] = search rules in
-    rw (← c.self.view_is) (splits c.self.inside.words c.self.inside.opening.items c.self.inside.opening_weight actors c.push.new.self.items c.args.actor c.args.left
+    rw (← c.self.view_is) (splits c.self.inside.net c.self.inside.opening.items c.self.inside.opening_weight actors c.push.new.self.items c.args.actor c.args.left
     c.index.result.now c.in_ok-new.new c.index_mut.result.now c.give.new.self below c.index.ensures c.in_ok-new.ensures items c.index_mut.ensures.value c.give.ensures)
