@@ -11,7 +11,7 @@ use Rattle.calculus_table.specs.Composition.{full_of, composition}
 use Rattle.calculus_table.specs.Calculus.{IsCalculus}
 use Rattle.calculus_table.proofs.Sets.{IsWithin-trans, IsWithin-meet_r}
 use Rattle.network_words.specs.declared.fact.Fact.{Fact}
-use Rattle.network_words.specs.Edge.{edge_count, IsProperTriple}
+use Rattle.network_words.specs.Edge.{edge_count, IsProperTriple, edge_between}
 use Rattle.network_words.specs.Network.{AreWithin, IsNetwork, met_at, set_at}
 use Rattle.network_words.specs.Closure.{IsClosed}
 use Rattle.network_words.proofs.Networks.{AreWithin-refl, AreWithin-trans, met_at-within, met_at-keeps, set_at-met_at, narrow-keeps}
@@ -19,7 +19,7 @@ use Rattle.narrow_core.specs.declared.event.Event.{Event}
 use Rattle.narrow_core.specs.declared.event.Event.TheVariants.{Assert, Read, Narrow, Split, Join}
 use Rattle.narrow_core.specs.Actor.{ActorState, IsLiveAt, EachLive, fresh, seeing, stating, giving, joining, spent, met_words}
 use Rattle.narrow_core.specs.Machine.{CoreState, IsProperFact, IsCore}
-use Rattle.narrow_core.specs.Event.{edge_between, IsAllowed, IsStep}
+use Rattle.narrow_core.specs.Event.{IsAllowed, IsStep}
 use Rattle.narrow_core.specs.Bound.{IsWithinFact, IsWithinActor, HasSeenWithin, IsCandidate, Bound}
 use Rattle.narrow_core.proofs.Places.{get-set_same, get-set_other, get-more, All-last, All-left, All-right}
 use Rattle.narrow_core.proofs.Sights.{facts-mono, edge_between-lt, set_at-edge, seen-within, seen-keeps, seen-edge, met-within_l, met-within_r, met-keeps, AreSets-network}

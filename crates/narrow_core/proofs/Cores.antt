@@ -8,13 +8,14 @@ use Rattle.std.proofs.lemmas.Option.{slice_get_within, get_or_from_slice_get}
 use Rattle.calculus_table.specs.Meaning.{Meaning}
 use Rattle.calculus_table.specs.Composition.{composition}
 use Rattle.network_words.specs.declared.fact.Fact.{Fact}
+use Rattle.network_words.specs.Edge.{edge_between}
 use Rattle.network_words.specs.Network.{AreWithin, set_at}
 use Rattle.network_words.proofs.Networks.{AreWithin-refl, length-met_at, met_at-within}
 use Rattle.narrow_core.specs.declared.event.Event.{Event}
 use Rattle.narrow_core.specs.declared.event.Event.TheVariants.{Assert, Read, Narrow, Split, Join}
 use Rattle.narrow_core.specs.Actor.{ActorState, IsLiveAt, EachLive, live_weight, fresh, seeing, stating, giving, joining, spent}
 use Rattle.narrow_core.specs.Machine.{CoreState, AreSets, IsProperFact, IsProperActor, AreWeighed, IsCore}
-use Rattle.narrow_core.specs.Event.{edge_between, IsAllowed, IsStep, HasLive, MayAssert, MaySplit, MayJoin, Asserts, Reads, Narrows, Splits, Joins}
+use Rattle.narrow_core.specs.Event.{IsAllowed, IsStep, HasLive, MayAssert, MaySplit, MayJoin, Asserts, Reads, Narrows, Splits, Joins}
 use Rattle.narrow_core.proofs.Places.{get-set, get-set_other, get-last}
 use Rattle.narrow_core.proofs.Sights.{length-seen, seen-within, length-met, met-within_l, AreSets-less}
 

@@ -1,8 +1,8 @@
 -- What actors have seen: the set of a pair after one edge or all edges are met, and facts under smaller words.
-use Rattle.std.proofs.Common.{◌≡◌, ◌≢◌, ℕ, zero, suc, ◌<◌, ◌≤◌, cond, List, [], ◌∷◌, length, refl, ◌∙◌, ap, subst, arith, inl, inr}
+use Rattle.std.proofs.Common.{◌≡◌, ◌≢◌, ℕ, zero, suc, ◌<◌, List, [], ◌∷◌, length, refl, ◌∙◌, ap, subst, arith, inl, inr}
 use Rattle.std.specs.Prelude.{bit_and, slice_index, slice_set}
 use Rattle.std.specs.List.{All}
-use Rattle.std.proofs.lemmas.Bool.{cases_lt, lt-ltb, le-ltb}
+use Rattle.std.proofs.lemmas.Bool.{cases_lt}
 use Rattle.std.proofs.lemmas.List.{length-set, get_or-set_same}
 use Rattle.std.proofs.lemmas.List.Elements.{All-weaker}
 use Rattle.calculus_table.specs.Rel.{IsWithin}
@@ -11,13 +11,12 @@ use Rattle.calculus_table.specs.Composition.{full_of}
 use Rattle.calculus_table.proofs.Sets.{IsWithin-refl, IsWithin-trans, IsWithin-meet, IsWithin-meet_l, IsWithin-meet_r, IsWithin-empty}
 use Rattle.calculus_table.proofs.Compositions.{converse-mono}
 use Rattle.network_words.specs.declared.fact.Fact.{Fact}
-use Rattle.network_words.specs.Edge.{edge_count, edge_at, IsProperPair}
+use Rattle.network_words.specs.Edge.{edge_count, IsProperPair, edge_between}
 use Rattle.network_words.specs.Network.{IsNetwork, AreWithin, set_at}
-use Rattle.network_words.proofs.Edges.{edge_at-lt}
+use Rattle.network_words.proofs.Edges.{edge_at-lt, edge_between-straight, edge_between-turned}
 use Rattle.network_words.proofs.Networks.{set-cases, set_at-mono, set_at-straight, set_at-turned}
 use Rattle.narrow_core.specs.Actor.{met_words}
 use Rattle.narrow_core.specs.Machine.{AreSets}
-use Rattle.narrow_core.specs.Event.{edge_between}
 use Rattle.narrow_core.specs.Bound.{IsWithinFact}
 
 -- ---- facts
@@ -26,12 +25,6 @@ pub facts-mono : (m : Meaning) (n : ℕ) (xs ys : List ℕ) (facts : List Fact) 
 facts-mono m n xs ys facts w = All-weaker (IsWithinFact m n ys) (IsWithinFact m n xs) (λ f h. IsWithin-trans _ _ _ (set_at-mono m n xs ys f.i f.j w) h) facts
 
 -- ---- the edge between two nodes
-
-pub edge_between-straight : (n i j : ℕ) → i < j → edge_between n i j ≡ edge_at n i j
-edge_between-straight n i j h = ap (λ b. cond b (edge_at n i j) (edge_at n j i)) (lt-ltb i j h)
-
-pub edge_between-turned : (n i j : ℕ) → j ≤ i → edge_between n i j ≡ edge_at n j i
-edge_between-turned n i j h = ap (λ b. cond b (edge_at n i j) (edge_at n j i)) (le-ltb i j h)
 
 pub edge_between-lt : (n i j : ℕ) → IsProperPair n i j → edge_between n i j < edge_count n
 edge_between-lt n i j p = elim (cases_lt i j) [

@@ -6,10 +6,11 @@ use Rattle.std.proofs.lemmas.Option.{slice_get_read, slice_get_within}
 use Rattle.calculus_table.specs.Meaning.{Meaning}
 use Rattle.calculus_table.specs.Composition.{composition}
 use Rattle.network_words.specs.declared.fact.Fact.{Fact}
+use Rattle.network_words.specs.Edge.{edge_between}
 use Rattle.network_words.specs.Network.{Network, met_at, set_at}
 use Rattle.narrow_core.specs.Actor.{ActorState, fresh, seeing, stating, giving, joining, spent}
 use Rattle.narrow_core.specs.Machine.{CoreState}
-use Rattle.narrow_core.specs.Event.{edge_between, Asserts, Reads, Narrows, Splits, Joins}
+use Rattle.narrow_core.specs.Event.{Asserts, Reads, Narrows, Splits, Joins}
 use Rattle.narrow_core.proofs.Places.{get-set_other, get-more}
 
 -- the machine of these parts

@@ -1,18 +1,14 @@
 -- The events of the machine: when each is allowed, and what it changes. What an event does not name stays as it was.
-use Rattle.std.specs.Prelude.{◌≡◌, ◌≢◌, ℕ, ◌<◌, List, [], ◌∷◌, ◌++◌, nat_lt, if◌then◌else◌, slice_get, slice_index, slice_set, Some}
+use Rattle.std.specs.Prelude.{◌≡◌, ◌≢◌, ℕ, ◌<◌, List, [], ◌∷◌, ◌++◌, slice_get, slice_index, slice_set, Some}
 use Rattle.calculus_table.specs.Meaning.{Meaning}
 use Rattle.calculus_table.specs.Composition.{composition}
 use Rattle.network_words.specs.declared.fact.Fact.{Fact}
-use Rattle.network_words.specs.Edge.{edge_count, edge_at, IsProperTriple}
+use Rattle.network_words.specs.Edge.{edge_count, edge_between, IsProperTriple}
 use Rattle.network_words.specs.Network.{set_at, met_at}
 use Rattle.narrow_core.specs.declared.event.Event.{Event}
 use Rattle.narrow_core.specs.declared.event.Event.TheVariants.{Assert, Read, Narrow, Split, Join}
 use Rattle.narrow_core.specs.Actor.{ActorState, IsLiveAt, fresh, seeing, stating, giving, joining, spent}
 use Rattle.narrow_core.specs.Machine.{CoreState, IsProperFact}
-
--- the number of the edge between two nodes, in whichever order
-abbrev pub edge_between : ℕ → ℕ → ℕ → ℕ
-edge_between n i j = if nat_lt i j then edge_at n i j else edge_at n j i
 
 -- ---- what each event changes
 

@@ -47,10 +47,10 @@ impl Core {
     ghost use Rattle.calculus_table.specs.Rel.{IsWithin};
     ghost use Rattle.calculus_table.specs.Meaning.{Meaning};
     ghost use Rattle.calculus_table.specs.Composition.{full_of};
-    ghost use Rattle.network_words.specs.Edge.{edge_count, IsProperPair};
+    ghost use Rattle.network_words.specs.Edge.{edge_count, IsProperPair, edge_between};
     ghost use Rattle.narrow_core.specs.Actor.{IsLiveAt};
     ghost use Rattle.narrow_core.specs.Machine.{CoreState, IsCore, IsProperFact, SameOpening, opened};
-    ghost use Rattle.narrow_core.specs.Event.{edge_between, IsAllowed, IsStep, HasLive, HasMore, MayAssert, MayRead, MayNarrow, MaySplit, MayJoin, Asserts, Reads, Narrows, Splits, Joins};
+    ghost use Rattle.narrow_core.specs.Event.{IsAllowed, IsStep, HasLive, HasMore, MayAssert, MayRead, MayNarrow, MaySplit, MayJoin, Asserts, Reads, Narrows, Splits, Joins};
     ghost use Rattle.narrow_core.specs.Run.{IsRun, StopsAt, TakesMemory, WantsMemory};
     ghost use Rattle.narrow_core.specs.Bound.{Bound};
 

@@ -144,7 +144,8 @@ impl Net {
 
     /// The sets of all edges, in edge order.
     pub fn words(&self) -> &[u64]
-        ensures { result.now ≡ self.now.words }
+        ensures value { result.now ≡ self.now.words }
+        ensures length_is { length self.now.words ≡ edge_count self.now.nodes }
     {
         &self.words
     }
