@@ -7,9 +7,10 @@ The plain program, bench/plain_closure.cpp, closes by a queue of edges with the 
 file; the time of the program on a network of one node is taken off as the cost of its start. Prints one line for each kind and
 size: the median times in milliseconds and their ratio.
 """
-import os, random, statistics, subprocess, sys, tempfile, time
+import os, random, subprocess, sys, tempfile
 
-TOP = os.path.dirname(os.path.dirname(os.path.abspath(__file__)))
+from timing import PROGRAM, TOP, timed
+
 BASES = ["DC", "EC", "PO", "TPP", "NTPP", "TPPi", "NTPPi", "EQ"]
 
 
@@ -50,19 +51,8 @@ def tree(nodes):
     return "\n".join(lines + ["."]) + "\n"
 
 
-def timed(command, path, turns):
-    times = []
-    for _ in range(turns):
-        with open(path) as source:
-            begun = time.perf_counter()
-            done = subprocess.run(command, stdin=source, capture_output=True)
-            times.append(time.perf_counter() - begun)
-    return statistics.median(times) * 1000, done.stdout, done.returncode
-
-
 def main():
     sizes = [int(word) for word in sys.argv[1:]] or [20, 40, 80, 128]
-    program = [os.path.join(TOP, "crates/qsr_main/out/qsr_main"), "close", "rcc8"]
     with tempfile.TemporaryDirectory() as folder:
         plain = os.path.join(folder, "plain_closure")
         subprocess.run(["g++", "-O2", "-o", plain, os.path.join(TOP, "bench/plain_closure.cpp")], check=True)
@@ -73,14 +63,14 @@ def main():
                 file.write(text)
 
         write("nodes 1\n.\n")
-        start, _, _ = timed(program, path, 21)
+        start, _, _ = timed(PROGRAM, path, 21)
         plain_start, _, _ = timed([plain], path, 21)
         print(f"start: program {start:.2f} ms, plain {plain_start:.2f} ms")
         for nodes in sizes:
             kinds = [(f"random, degree {d}", random_network(nodes, d, 1000 * nodes + d)) for d in (6, 8, 10, 12, 14)]
             for kind, text in kinds + [("chain", chain(nodes)), ("tree", tree(nodes))]:
                 write(text)
-                ours, out, status = timed(program, path, 7)
+                ours, out, status = timed(PROGRAM, path, 7)
                 theirs, plain_out, _ = timed([plain], path, 7)
                 if out != plain_out:
                     sys.exit(f"the two disagree on {kind} at {nodes} nodes")
@@ -89,4 +79,5 @@ def main():
                 print(f"{nodes:4} nodes, {kind:18} {verdict:4}  program {ours:9.2f} ms  plain {theirs:9.2f} ms  ratio {ours / theirs:6.2f}")
 
 
-main()
+if __name__ == "__main__":
+    main()
