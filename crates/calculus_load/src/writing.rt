@@ -24,6 +24,7 @@ fn push_names(text: &mut String, c: &Calculus) -> Result<(), AllocError>
 fn push_identity(text: &mut String, c: &Calculus) -> Result<(), AllocError>
     ensures { OnOk result (string_bytes text.new ≡ string_bytes text.old ++ identity_text c.now) }
 {
+    // The size comes with the laws of the calculus, on which the proof stands.
     let _size = c.size();
     writeln!(text, "identity {}", c.name(c.identity()))?;
     Ok(())
@@ -35,6 +36,7 @@ fn converse_of(c: &Calculus, r: u32) -> u32
     ensures value { result ≡ converse_at c.now.meaning r }
     ensures below { result < c.now.meaning.size }
 {
+    // The size comes with the laws of the calculus, on which the proof stands.
     let _size = c.size();
     c.converse(Rel::single(r)).least()
 }
@@ -45,6 +47,7 @@ fn composition_of(c: &Calculus, r: u32, s: u32) -> Rel
     requires second { s < c.now.meaning.size }
     ensures { result ≡ entry_at c.now.meaning r s }
 {
+    // The size comes with the laws of the calculus, on which the proof stands.
     let _size = c.size();
     c.compose(Rel::single(r), Rel::single(s))
 }

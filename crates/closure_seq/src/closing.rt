@@ -194,6 +194,7 @@ fn finish<C: Compose>(net: &mut Net, c: &C, work: &mut Work)
     ensures rest { net.new ≡ record net.old { words = net.new.words } }
     ensures nodes { work.new.nodes ≡ work.old.nodes }
 {
+    // The size comes with the laws of the calculus, on which the proof stands.
     let _bases = c.size();
     if let Err(Emptied) = settle(net, c, work) {
         empty_all(net);
@@ -209,6 +210,7 @@ pub fn close_with<C: Compose>(net: &mut Net, c: &C, work: &mut Work)
     ensures rest { net.new ≡ record net.old { words = net.new.words } }
     ensures work { work.new.nodes ≡ work.old.nodes }
 {
+    // The size comes with the laws of the calculus, on which the proof stands.
     let _bases = c.size();
     work.load(net, c);
     work.wait_lesser(c.full());

@@ -68,6 +68,7 @@ pub fn sweep<C: Compose>(net: &mut Net, c: &C) -> bool
     ensures narrowed { IsNarrowing (C.meaning c.now) net.old net.new result }
     ensures closed { result ≡ false → IsClosed (C.meaning c.now) net.old.nodes net.new.words }
 {
+    // The size comes with the laws of the calculus, on which the proof stands.
     let _bases = c.size();
     let mut changed = false;
     let nodes = net.nodes();

@@ -131,6 +131,7 @@ impl Core {
         ensures takes { OnErr result (TakesMemory event.now) }
         ensures same { SameOpening self.old self.new }
     {
+        // The size comes with the laws of the calculus, on which the proof stands.
         let (_bases, _net) = (c.size(), &self.net);
         match *event {
             Event::Assert { actor, fact } => self.assert(c, actor, fact)?,
