@@ -4,7 +4,7 @@ ghost use Rattle.qsr_lex.specs.Printed.{text_below};
 ghost use Rattle.calculus_load.specs.TableText.{names_text, identity_text, converse_text, entry_text, row_text, table_text};
 ghost use Rattle.calculus_table.specs.Meaning.{converse_at, entry_at};
 
-use calculus_table::{Calculus, Compose, Memory, Rel};
+use calculus_table::{Calculus, Compose, Memory, Rel, lawful};
 use named_sets::push_set;
 use std::alloc::{AllocError, Global};
 
@@ -24,8 +24,7 @@ fn push_names(text: &mut String, c: &Calculus) -> Result<(), AllocError>
 fn push_identity(text: &mut String, c: &Calculus) -> Result<(), AllocError>
     ensures { OnOk result (string_bytes text.new ≡ string_bytes text.old ++ identity_text c.now) }
 {
-    // The size comes with the laws of the calculus, on which the proof stands.
-    let _size = c.size();
+    lawful(c);
     writeln!(text, "identity {}", c.name(c.identity()))?;
     Ok(())
 }
@@ -36,8 +35,7 @@ fn converse_of(c: &Calculus, r: u32) -> u32
     ensures value { result ≡ converse_at c.now.meaning r }
     ensures below { result < c.now.meaning.size }
 {
-    // The size comes with the laws of the calculus, on which the proof stands.
-    let _size = c.size();
+    lawful(c);
     c.converse(Rel::single(r)).least()
 }
 
@@ -47,8 +45,7 @@ fn composition_of(c: &Calculus, r: u32, s: u32) -> Rel
     requires second { s < c.now.meaning.size }
     ensures { result ≡ entry_at c.now.meaning r s }
 {
-    // The size comes with the laws of the calculus, on which the proof stands.
-    let _size = c.size();
+    lawful(c);
     c.compose(Rel::single(r), Rel::single(s))
 }
 

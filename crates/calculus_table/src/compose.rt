@@ -1,3 +1,5 @@
+ghost use Rattle.calculus_table.specs.Calculus.{IsCalculus};
+
 use crate::rel::Rel;
 
 /// A calculus as a reasoner uses it: composition and converse of sets of base relations.
@@ -38,4 +40,11 @@ pub trait Compose {
         ensures value { result ≡ composition (meaning self.now) a b }
         ensures members { (t : ℕ) → Has result t ↔ InComposition (meaning self.now) a b t }
         ensures within { IsWithin result (full_of (meaning self.now)) };
+}
+
+/// Does nothing. A proof learns by it that what `c` means is a calculus: its table keeps the four laws.
+pub fn lawful<C: Compose>(c: &C)
+    ensures { IsCalculus (C.meaning c.now) }
+{
+    let _size = c.size();
 }

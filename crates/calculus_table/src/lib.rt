@@ -10,7 +10,7 @@ mod rel;
 mod table;
 
 pub use calculus::{Calculus, TableFault};
-pub use compose::Compose;
+pub use compose::{Compose, lawful};
 pub use laws::laws_of_sets;
 pub use names::place_of;
 pub use rel::Rel;

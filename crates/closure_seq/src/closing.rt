@@ -10,7 +10,7 @@ ghost use Rattle.closure_seq.specs.Worklist.{Worklist, edge_place, IsSized, IsIn
 ghost use Rattle.closure_seq.specs.ClosedBut.{IsClosedBut};
 
 use crate::work::Work;
-use calculus_table::{Compose, Memory, Rel};
+use calculus_table::{Compose, Memory, Rel, lawful};
 use network_words::Net;
 use std::alloc::Global;
 
@@ -194,8 +194,7 @@ fn finish<C: Compose>(net: &mut Net, c: &C, work: &mut Work)
     ensures rest { net.new ≡ record net.old { words = net.new.words } }
     ensures nodes { work.new.nodes ≡ work.old.nodes }
 {
-    // The size comes with the laws of the calculus, on which the proof stands.
-    let _bases = c.size();
+    lawful(c);
     if let Err(Emptied) = settle(net, c, work) {
         empty_all(net);
     }
@@ -210,8 +209,7 @@ pub fn close_with<C: Compose>(net: &mut Net, c: &C, work: &mut Work)
     ensures rest { net.new ≡ record net.old { words = net.new.words } }
     ensures work { work.new.nodes ≡ work.old.nodes }
 {
-    // The size comes with the laws of the calculus, on which the proof stands.
-    let _bases = c.size();
+    lawful(c);
     work.load(net, c);
     work.wait_lesser(c.full());
     finish(net, c, work);

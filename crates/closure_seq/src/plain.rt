@@ -7,7 +7,7 @@ ghost use Rattle.network_words.specs.Network.{IsNetwork};
 ghost use Rattle.network_words.specs.Closure.{IsClosed, IsClosure};
 ghost use Rattle.closure_seq.specs.Narrowing.{IsNarrowing, IsClosedAt, IsPairClosed, IsRowClosed};
 
-use calculus_table::Compose;
+use calculus_table::{Compose, lawful};
 use network_words::Net;
 
 /// Narrows the set of `(i, k)` by way of `j`. Whether it became smaller.
@@ -68,8 +68,7 @@ pub fn sweep<C: Compose>(net: &mut Net, c: &C) -> bool
     ensures narrowed { IsNarrowing (C.meaning c.now) net.old net.new result }
     ensures closed { result ≡ false → IsClosed (C.meaning c.now) net.old.nodes net.new.words }
 {
-    // The size comes with the laws of the calculus, on which the proof stands.
-    let _bases = c.size();
+    lawful(c);
     let mut changed = false;
     let nodes = net.nodes();
     for i in 0..nodes {

@@ -1,6 +1,6 @@
 use crate::actor::Actor;
 use crate::event::Event;
-use calculus_table::{Compose, Memory, Rel};
+use calculus_table::{Compose, Memory, Rel, lawful};
 use network_words::{Fact, Net};
 use std::alloc::Global;
 use std::marker::Model;
@@ -131,8 +131,8 @@ impl Core {
         ensures takes { OnErr result (TakesMemory event.now) }
         ensures same { SameOpening self.old self.new }
     {
-        // The size comes with the laws of the calculus, on which the proof stands.
-        let (_bases, _net) = (c.size(), &self.net);
+        lawful(c);
+        let _net = &self.net;
         match *event {
             Event::Assert { actor, fact } => self.assert(c, actor, fact)?,
             Event::Read { actor, edge } => self.read(actor, edge),

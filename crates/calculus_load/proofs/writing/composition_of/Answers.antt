@@ -7,4 +7,4 @@ pub returns : goal.returns
 returns c =
     let m = c.args.c.now.meaning in
     c.compose.ensures.value ∙ ap (λ a. composition m a c.single-2.result) c.single.ensures ∙ ap (composition m (2 ^ c.args.r)) c.single-2.ensures
-    ∙ composition-single m c.args.r c.args.s c.size-size.ensures.calculus.table c.requires.first c.requires.second
+    ∙ composition-single m c.args.r c.args.s c.lawful.ensures.table c.requires.first c.requires.second

@@ -21,4 +21,4 @@ returns-clause-value c =
 
 pub returns-clause-below : goal.returns-clause-below
 returns-clause-below c =
-    subst (λ k. k < c.args.c.now.meaning.size) (sym (returns-clause-value c)) (c.size-size.ensures.calculus.table.converse_below c.args.r c.requires)
+    subst (λ k. k < c.args.c.now.meaning.size) (sym (returns-clause-value c)) (c.lawful.ensures.table.converse_below c.args.r c.requires)

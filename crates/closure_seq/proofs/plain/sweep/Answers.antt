@@ -25,6 +25,6 @@ returns-clause-closed g c = λ e.
     let m = g.C.Compose.meaning c.args.c.now in
     let net = c.args.net.now in
     let s = c.loop-i.invariant in
-    IsClosed-rows m net.nodes c.loop-i.net.words c.size-bases.ensures.calculus
+    IsClosed-rows m net.nodes c.loop-i.net.words c.lawful.ensures
     (IsNetwork-within m net.nodes c.loop-i.net.words net.words c.requires s.sofar.lessened.length_is s.sofar.lessened.within)
     (λ i h. s.closed e i (omega arith))
