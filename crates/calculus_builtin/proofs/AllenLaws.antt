@@ -1,10 +1,10 @@
 -- The table of Allen's algebra obeys the laws, by tests that compute.
 use Rattle.std.proofs.Common.{◌≡◌, true, refl, sym, subst}
-use Rattle.calculus_table.specs.Meaning.{Meaning}
-use Rattle.calculus_table.specs.Calculus.{IsCalculus, NamesItsBases}
+use Rattle.calculus_table.specs.Algebra.{Algebra}
+use Rattle.calculus_table.specs.Calculus.{IsCalculus, IsNamedCalculus}
 use Rattle.calculus_table.specs.Checked.{each_below, each_triple, has_shape, obeys_involution, obeys_identity, obeys_converse, obeys_cycle, are_distinct}
 use Rattle.calculus_table.proofs.Computed.{IsCalculus-from_tests, AreDistinct-from_test}
-use Rattle.calculus_builtin.specs.Allen.{allen_names, allen_table, allen_meaning, allen_calculus}
+use Rattle.calculus_builtin.specs.Allen.{allen_names, allen_table, allen_algebra, allen_calculus}
 use Rattle.calculus_builtin.specs.declared.intervals.TheConstants.{COMPOSITIONS}
 
 -- the table by the rule is the table written down
@@ -13,8 +13,8 @@ unfolding allen_table
 allen_table-written = refl
 
 -- the algebra with the table written down
-abbrev pub written : Meaning
-written = record allen_meaning { table = COMPOSITIONS }
+abbrev pub written : Algebra
+written = record allen_algebra { table = COMPOSITIONS }
 
 written_shape : has_shape written ≡ true
 written_shape = refl
@@ -34,14 +34,14 @@ written_cycle = refl
 allen_distinct : are_distinct allen_names ≡ true
 allen_distinct = refl
 
-allen_lawful_meaning : IsCalculus allen_meaning
-allen_lawful_meaning =
-    subst (λ table. IsCalculus (record allen_meaning { table = table })) (sym allen_table-written)
+allen_lawful_algebra : IsCalculus allen_algebra
+allen_lawful_algebra =
+    subst (λ table. IsCalculus (record allen_algebra { table = table })) (sym allen_table-written)
     (IsCalculus-from_tests written written_shape written_involution written_identity written_converse written_cycle)
 
-pub allen_lawful : NamesItsBases allen_calculus
+pub allen_lawful : IsNamedCalculus allen_calculus
 allen_lawful = record {
-  lawful = allen_lawful_meaning;
+  lawful = allen_lawful_algebra;
   distinct = AreDistinct-from_test allen_names allen_distinct;
   one_each = refl;
 }

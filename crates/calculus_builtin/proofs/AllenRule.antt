@@ -4,12 +4,12 @@ use Rattle.std.specs.List.{filter, list_all, list_any}
 use Rattle.std.proofs.lemmas.Bool.{and_parts, ltb-true, leb-true, eqb-true}
 use Rattle.std.proofs.lemmas.Bool.Decides.{nat_tests}
 use Rattle.calculus_table.specs.Rel.{Has}
-use Rattle.calculus_table.specs.Meaning.{converse_at, entry_at}
+use Rattle.calculus_table.specs.Algebra.{converse_at, entry_at}
 use Rattle.calculus_table.specs.Checked.{each_below}
 use Rattle.calculus_table.proofs.Computed.{each_below-at}
 use Rattle.calculus_table.proofs.Sets.{Has-single}
 use Rattle.calculus_table.proofs.Compositions.{single-member}
-use Rattle.calculus_builtin.specs.Allen.{Interval, equals, interval, intervals, bases, single, holds, holds_at, IsInterval, ComposesByRule, FollowsRule, relations, relations_past, relations_from, allen_entry, allen_meaning}
+use Rattle.calculus_builtin.specs.Allen.{Interval, equals, interval, intervals, bases, single, holds, holds_at, IsInterval, ComposesByRule, FollowsRule, relations, relations_past, relations_from, allen_entry, allen_algebra}
 use Rattle.calculus_builtin.proofs.Unions.{Listed, InUnionOf, union_of-member, Has-union_of, filter-listed, Listed-filter, listed-passes, Listed-from_test}
 use Rattle.calculus_builtin.proofs.Numbers.{EachNumber, each_number-at}
 use Rattle.calculus_builtin.proofs.AllenRanks.{ComposesByRule-ranked}
@@ -157,6 +157,6 @@ written-rule = record {
 }
 
 -- Allen's algebra follows the end point rule
-pub allen_rule : FollowsRule allen_meaning
+pub allen_rule : FollowsRule allen_algebra
 allen_rule =
-    subst (λ table. FollowsRule (record allen_meaning { table = table })) (sym allen_table-written) written-rule
+    subst (λ table. FollowsRule (record allen_algebra { table = table })) (sym allen_table-written) written-rule

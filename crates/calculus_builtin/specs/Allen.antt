@@ -2,8 +2,8 @@
 use Rattle.std.specs.Prelude.{◌≡◌, ℕ, ◌^◌, ◌<◌, ◌≤◌, Bool, false, ◌&&◌, ◌==◌, nat_lt, List, [], ◌∷◌, map, slice_index_or, IsTrue, bit_or, ◌↔◌, codes}
 use Rattle.std.specs.List.{filter, flat_map, range_with_len}
 use Rattle.calculus_table.specs.Rel.{Has}
-use Rattle.calculus_table.specs.Meaning.{Meaning, converse_at, entry_at}
-use Rattle.calculus_table.specs.Calculus.{Named}
+use Rattle.calculus_table.specs.Algebra.{Algebra, converse_at, entry_at}
+use Rattle.calculus_table.specs.Calculus.{NamedAlgebra}
 
 -- an interval by its end points
 pub record Interval : Type 0 where
@@ -87,7 +87,7 @@ pub record ComposesByRule (r s t : ℕ) : Type 0 where
 
 -- the compositions are those of the end point rule; intervals on whatever end points lie in no way that they leave out;
 -- and the rule of a converse is the rule turned round
-pub record FollowsRule (m : Meaning) : Type 0 where
+pub record FollowsRule (m : Algebra) : Type 0 where
   pub composes : (r s t : ℕ) → r < 13 → s < 13 → t < 13 → Has (entry_at m r s) t ↔ ComposesByRule r s t
   pub sound : (r s t : ℕ) (x y z : Interval) → r < 13 → s < 13 → t < 13 → LieBy r s t x y z → Has (entry_at m r s) t
   pub turns : (r : ℕ) (x y : Interval) → r < 13 → holds (converse_at m r) x y ≡ holds r y x
@@ -138,8 +138,8 @@ unfoldable pub allen_table : List ℕ
 allen_table = flat_map allen_row bases
 
 -- the identity is eq, and the order is that of the converses turned round
-abbrev pub allen_meaning : Meaning
-allen_meaning = record {
+abbrev pub allen_algebra : Algebra
+allen_algebra = record {
   size = 13;
   identity = 6;
   converses = 12 ∷ 11 ∷ 10 ∷ 9 ∷ 8 ∷ 7 ∷ 6 ∷ 5 ∷ 4 ∷ 3 ∷ 2 ∷ 1 ∷ 0 ∷ [];
@@ -147,5 +147,5 @@ allen_meaning = record {
 }
 
 -- Allen's algebra with its names
-abbrev pub allen_calculus : Named
-allen_calculus = record { names = allen_names; meaning = allen_meaning }
+abbrev pub allen_calculus : NamedAlgebra
+allen_calculus = record { names = allen_names; algebra = allen_algebra }

@@ -1,7 +1,7 @@
 -- The point calculus: a point lies before, at or after another (Vilain and Kautz 1986).
 use Rattle.std.specs.Prelude.{ℕ, ◌^◌, List, [], ◌∷◌, ◌++◌, codes}
-use Rattle.calculus_table.specs.Meaning.{Meaning}
-use Rattle.calculus_table.specs.Calculus.{Named}
+use Rattle.calculus_table.specs.Algebra.{Algebra}
+use Rattle.calculus_table.specs.Calculus.{NamedAlgebra}
 use Rattle.calculus_builtin.specs.Sets.{◌∪◌}
 
 -- the base relations in order
@@ -35,9 +35,9 @@ unfoldable pub point_table : List ℕ
 point_table = less_row ++ same_row ++ greater_row
 
 -- the identity is =, and < and > are each other's converses
-abbrev pub point_meaning : Meaning
-point_meaning = record { size = 3; identity = 1; converses = 2 ∷ 1 ∷ 0 ∷ []; table = point_table }
+abbrev pub point_algebra : Algebra
+point_algebra = record { size = 3; identity = 1; converses = 2 ∷ 1 ∷ 0 ∷ []; table = point_table }
 
 -- the point calculus with its names
-abbrev pub point_calculus : Named
-point_calculus = record { names = point_names; meaning = point_meaning }
+abbrev pub point_calculus : NamedAlgebra
+point_calculus = record { names = point_names; algebra = point_algebra }

@@ -1,7 +1,7 @@
 -- RCC-8: eight relations of regions, with their composition table (Randell, Cui and Cohn 1992).
 use Rattle.std.specs.Prelude.{ℕ, ◌^◌, List, [], ◌∷◌, ◌++◌, codes}
-use Rattle.calculus_table.specs.Meaning.{Meaning}
-use Rattle.calculus_table.specs.Calculus.{Named}
+use Rattle.calculus_table.specs.Algebra.{Algebra}
+use Rattle.calculus_table.specs.Calculus.{NamedAlgebra}
 use Rattle.calculus_builtin.specs.Sets.{◌∪◌}
 
 -- the base relations in order: apart, touching, overlapping, a touching part, an inner part, their converses, the same
@@ -79,8 +79,8 @@ unfoldable pub rcc8_table : List ℕ
 rcc8_table = dc_row ++ ec_row ++ po_row ++ tpp_row ++ ntpp_row ++ tppi_row ++ ntppi_row ++ eq_row
 
 -- the identity is EQ; TPP and TPPi, NTPP and NTPPi are each other's converses, and the others their own
-abbrev pub rcc8_meaning : Meaning
-rcc8_meaning = record {
+abbrev pub rcc8_algebra : Algebra
+rcc8_algebra = record {
   size = 8;
   identity = 7;
   converses = 0 ∷ 1 ∷ 2 ∷ 5 ∷ 6 ∷ 3 ∷ 4 ∷ 7 ∷ [];
@@ -88,5 +88,5 @@ rcc8_meaning = record {
 }
 
 -- RCC-8 with its names
-abbrev pub rcc8_calculus : Named
-rcc8_calculus = record { names = rcc8_names; meaning = rcc8_meaning }
+abbrev pub rcc8_calculus : NamedAlgebra
+rcc8_calculus = record { names = rcc8_names; algebra = rcc8_algebra }

@@ -1,6 +1,6 @@
 ghost use Rattle.std.specs.Prelude.{◌≡◌, map, length, IfOk};
 ghost use Rattle.std.specs.String.{string_bytes};
-ghost use Rattle.calculus_table.specs.Calculus.{NamesItsBases};
+ghost use Rattle.calculus_table.specs.Calculus.{IsNamedCalculus};
 
 use calculus_table::{Calculus, Memory, Rel, TableFault};
 use std::alloc::Global;
@@ -34,13 +34,13 @@ pub(crate) fn constant_calculus(
     converses: &[u32],
     words: &[u64],
 ) -> Result<Calculus, Memory>
-    requires { NamesItsBases (record {
+    requires { IsNamedCalculus (record {
       names = map (λ name. name.now) names.now;
-      meaning = record { size = length names.now; identity = id; converses = converses.now; table = words.now };
+      algebra = record { size = length names.now; identity = id; converses = converses.now; table = words.now };
     }) }
     ensures { IfOk result (λ c. c ≡ record {
       names = map (λ name. name.now) names.now;
-      meaning = record { size = length names.now; identity = id; converses = converses.now; table = words.now };
+      algebra = record { size = length names.now; identity = id; converses = converses.now; table = words.now };
     }) }
 {
     let owned = owned_names(alloc, names)?;

@@ -87,7 +87,7 @@ const COMPOSITIONS: [u64; 169] = [
 /// Allen's algebra of intervals: thirteen relations, whose compositions are those of the end points.
 pub fn allen(alloc: Global) -> Result<Calculus, Memory>
     ensures value { IfOk result (λ c. c ≡ allen_calculus) }
-    ensures rule { IfOk result (λ c. FollowsRule c.meaning) }
+    ensures rule { IfOk result (λ c. FollowsRule c.algebra) }
 {
     constant_calculus(alloc, &NAMES, IDENTITY, &CONVERSES, &COMPOSITIONS)
 }

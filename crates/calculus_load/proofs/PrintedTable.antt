@@ -1,8 +1,8 @@
 -- The canonical text of a table as lines of tokens with one space between.
 use Rattle.std.proofs.Common.{◌≡◌, ℕ, zero, suc, List, [], ◌∷◌, ◌++◌, codes, refl, sym, ap, ◌∙◌, append_assoc, append-nil}
 use Rattle.qsr_lex.specs.Printed.{spaced, printed_line, printed, text_below, word_text}
-use Rattle.calculus_table.specs.Meaning.{converse_at, entry_at}
-use Rattle.calculus_table.specs.Calculus.{Named}
+use Rattle.calculus_table.specs.Algebra.{converse_at, entry_at}
+use Rattle.calculus_table.specs.Calculus.{NamedAlgebra}
 use Rattle.named_sets.specs.Written.{set_words}
 use Rattle.qsr_lex.proofs.WrittenTexts.{spaces, spaces-append, spaced-more, spaced-close}
 use Rattle.named_sets.proofs.WrittenSets.{set_text-spaced}
@@ -13,34 +13,34 @@ unfoldable pub listed : {A : Type 0} → ℕ → (ℕ → A) → List A
 listed zero f = []
 listed (suc n) f = listed n f ++ (f n ∷ [])
 
-abbrev pub names_words : Named → List (List ℕ)
-names_words c = codes "names" ∷ codes "(" ∷ (listed c.meaning.size (name_at c) ++ (codes ")" ∷ []))
+abbrev pub names_words : NamedAlgebra → List (List ℕ)
+names_words c = codes "names" ∷ codes "(" ∷ (listed c.algebra.size (name_at c) ++ (codes ")" ∷ []))
 
-abbrev pub identity_words : Named → List (List ℕ)
-identity_words c = codes "identity" ∷ name_at c c.meaning.identity ∷ []
+abbrev pub identity_words : NamedAlgebra → List (List ℕ)
+identity_words c = codes "identity" ∷ name_at c c.algebra.identity ∷ []
 
-abbrev pub converse_words : Named → ℕ → List (List ℕ)
-converse_words c r = name_at c r ∷ codes "::" ∷ name_at c (converse_at c.meaning r) ∷ []
+abbrev pub converse_words : NamedAlgebra → ℕ → List (List ℕ)
+converse_words c r = name_at c r ∷ codes "::" ∷ name_at c (converse_at c.algebra r) ∷ []
 
-abbrev pub entry_words : Named → ℕ → ℕ → List (List ℕ)
-entry_words c r s = name_at c r ∷ codes ":" ∷ name_at c s ∷ codes "::" ∷ set_words c (entry_at c.meaning r s)
+abbrev pub entry_words : NamedAlgebra → ℕ → ℕ → List (List ℕ)
+entry_words c r s = name_at c r ∷ codes ":" ∷ name_at c s ∷ codes "::" ∷ set_words c (entry_at c.algebra r s)
 
-unfoldable pub row_lines : Named → ℕ → List (List (List ℕ))
+unfoldable pub row_lines : NamedAlgebra → ℕ → List (List (List ℕ))
 row_lines c zero = []
-row_lines c (suc r) = row_lines c r ++ listed c.meaning.size (entry_words c r)
+row_lines c (suc r) = row_lines c r ++ listed c.algebra.size (entry_words c r)
 
 abbrev pub end_lines : List (List (List ℕ))
 end_lines = (codes "." ∷ []) ∷ []
 
-abbrev pub table_lines : Named → List (List (List ℕ))
+abbrev pub table_lines : NamedAlgebra → List (List (List ℕ))
 table_lines c =
-    names_words c ∷ identity_words c ∷ (listed c.meaning.size (converse_words c) ++ (row_lines c c.meaning.size ++ end_lines))
+    names_words c ∷ identity_words c ∷ (listed c.algebra.size (converse_words c) ++ (row_lines c c.algebra.size ++ end_lines))
 
 printed-append : (xs ys : List (List (List ℕ))) → printed (xs ++ ys) ≡ printed xs ++ printed ys
 printed-append [] ys = refl
 printed-append (x ∷ xs) ys = ap (λ t. printed_line x ++ t) (printed-append xs ys) ∙ sym (append_assoc (printed_line x) (printed xs) (printed ys))
 
-names-spaces : (c : Named) (n : ℕ) → text_below n (word_text c.names) ≡ spaces (listed n (name_at c))
+names-spaces : (c : NamedAlgebra) (n : ℕ) → text_below n (word_text c.names) ≡ spaces (listed n (name_at c))
 unfolding text_below listed
 names-spaces c zero = refl
 names-spaces c (suc n) =
@@ -54,40 +54,40 @@ lines-printed (suc n) text words h =
     ap (λ t. t ++ text n) (lines-printed n text words h) ∙ ap (λ t. printed (listed n words) ++ t) (h n ∙ sym (append-nil (printed_line (words n))))
     ∙ sym (printed-append (listed n words) (words n ∷ []))
 
-names-line : (c : Named) → names_text c ≡ printed_line (names_words c)
+names-line : (c : NamedAlgebra) → names_text c ≡ printed_line (names_words c)
 names-line c =
-    let ws = listed c.meaning.size (name_at c) in
-    ap (λ t. codes "names ( " ++ t ++ codes ")\n") (names-spaces c c.meaning.size)
+    let ws = listed c.algebra.size (name_at c) in
+    ap (λ t. codes "names ( " ++ t ++ codes ")\n") (names-spaces c c.algebra.size)
     ∙ ap (λ t. codes "names ( " ++ t) (sym (append_assoc (spaces ws) (codes ")") (codes "\n")))
     ∙ ap (λ t. codes "names ( " ++ (t ++ codes "\n")) (sym (spaced-close ws))
     ∙ ap (λ t. codes "names " ++ (t ++ codes "\n")) (sym (spaced-more (codes "(") ws (codes ")")))
 
-converse-line : (c : Named) (r : ℕ) → converse_text c r ≡ printed_line (converse_words c r)
+converse-line : (c : NamedAlgebra) (r : ℕ) → converse_text c r ≡ printed_line (converse_words c r)
 converse-line c r = simp append_assoc
 
 last : (x y t : List ℕ) → x ++ codes " : " ++ y ++ codes " :: " ++ t ++ codes "\n" ≡ (x ++ 32 ∷ (codes ": " ++ (y ++ 32 ∷ (codes ":: " ++ t)))) ++ codes "\n"
 last x y t = simp append_assoc
 
-entry-line : (c : Named) (r s : ℕ) → entry_text c r s ≡ printed_line (entry_words c r s)
+entry-line : (c : NamedAlgebra) (r s : ℕ) → entry_text c r s ≡ printed_line (entry_words c r s)
 entry-line c r s =
-    let a = entry_at c.meaning r s in
+    let a = entry_at c.algebra r s in
     ap (λ t. name_at c r ++ codes " : " ++ name_at c s ++ codes " :: " ++ t ++ codes "\n") (set_text-spaced c a)
     ∙ last (name_at c r) (name_at c s) (spaced (set_words c a))
 
-rows-printed : (c : Named) (n : ℕ) → text_below n (row_text c) ≡ printed (row_lines c n)
+rows-printed : (c : NamedAlgebra) (n : ℕ) → text_below n (row_text c) ≡ printed (row_lines c n)
 unfolding text_below row_lines
 rows-printed c zero = refl
 rows-printed c (suc n) =
     ap (λ t. t ++ row_text c n) (rows-printed c n)
-    ∙ ap (λ t. printed (row_lines c n) ++ t) (lines-printed c.meaning.size (entry_text c n) (entry_words c n) (entry-line c n))
-    ∙ sym (printed-append (row_lines c n) (listed c.meaning.size (entry_words c n)))
+    ∙ ap (λ t. printed (row_lines c n) ++ t) (lines-printed c.algebra.size (entry_text c n) (entry_words c n) (entry-line c n))
+    ∙ sym (printed-append (row_lines c n) (listed c.algebra.size (entry_words c n)))
 
 all : (a b c d : List ℕ) → a ++ b ++ c ++ d ++ codes ".\n" ≡ a ++ (b ++ (c ++ (d ++ codes ".\n")))
 all a b c d = simp append_assoc
 
-pub table_text-printed : (c : Named) → table_text c ≡ printed (table_lines c)
+pub table_text-printed : (c : NamedAlgebra) → table_text c ≡ printed (table_lines c)
 table_text-printed c =
-    let n = c.meaning.size in
+    let n = c.algebra.size in
     let names = printed_line (names_words c) in
     let id = identity_text c in
     let cs = printed (listed n (converse_words c)) in

@@ -4,7 +4,7 @@ use Rattle.std.specs.List.{list_all}
 use Rattle.std.proofs.lemmas.Nat.{mul-add-lt}
 use Rattle.qsr_lex.specs.Lexemes.{Lexeme}
 use Rattle.qsr_lex.specs.Names.{is_name}
-use Rattle.qsr_lex.specs.Words.{name_at, names_at, behind_kind, is_name_token, is_same_kind, ◌>>=◌, at_end, ends_there, is_end_line}
+use Rattle.qsr_lex.specs.Words.{name_at, names_at, after_kind, is_name_token, is_same_kind, ◌>>=◌, at_end, ends_there, is_end_line}
 use Rattle.qsr_lex.specs.TextLines.{readable_text}
 use Rattle.qsr_lex.specs.TokenLines.{TokenLine, add_line, token_line, token_lines}
 use Rattle.qsr_lex.specs.Printed.{printed, is_token_text, are_tokens, lexeme_from, printed_token_lines, IsReadAgain}
@@ -12,8 +12,8 @@ use Rattle.qsr_lex.specs.declared.tokens.TokenKind.TheVariants.{Colon, Colons, S
 use Rattle.qsr_lex.proofs.CleanLines.{readable_text-all}
 use Rattle.qsr_lex.proofs.PrintedText.{IsReadAgain-from_tokens}
 use Rattle.qsr_lex.proofs.PrintedNames.{IsNameText-from_test, kind_of-word, IsPrintedName-from_test, IsPrintedSet-from_tests}
-use Rattle.calculus_table.specs.Meaning.{converse_at, entry_at}
-use Rattle.calculus_table.specs.Calculus.{Named}
+use Rattle.calculus_table.specs.Algebra.{converse_at, entry_at}
+use Rattle.calculus_table.specs.Calculus.{NamedAlgebra}
 use Rattle.calculus_load.specs.Given.{Given, value_of, first_missing, first_missing_from, complete}
 use Rattle.calculus_load.specs.LinesToRead.{bad_lines, lines_to_read, end_place}
 use Rattle.calculus_table.specs.Names.{place_of}
@@ -22,8 +22,8 @@ use Rattle.named_sets.specs.Written.{members}
 use Rattle.named_sets.proofs.ReadSets.{set_of-members}
 use Rattle.named_sets.proofs.WrittenSets.{members-names, closed-tokens}
 use Rattle.calculus_load.specs.Names.{allowed_names}
-use Rattle.calculus_load.specs.Statements.{some_names, names_line, converse_line, behind_colons, entry_line, behind_colon, or_else, statement_line}
-use Rattle.calculus_load.specs.TableFile.{◌then◌, formed, known, said, stated, nothing_behind, statements, nothing_given, named, identified, from_identity, from_names, table_of}
+use Rattle.calculus_load.specs.Statements.{some_names, names_line, converse_line, after_colons, entry_line, after_colon, or_else, statement_line}
+use Rattle.calculus_load.specs.TableFile.{◌then◌, formed, known, said, stated, nothing_after, statements, nothing_given, named, identified, from_identity, from_names, table_of}
 use Rattle.calculus_load.specs.TableText.{table_text}
 use Rattle.calculus_load.specs.TableText as texts
 use Rattle.calculus_load.specs.declared.statement.Statement.TheVariants.{Converse, Entry}
@@ -47,38 +47,38 @@ unfolding listed
 all-listed test zero f h = refl
 all-listed test (suc n) f h = all-append test (listed n f) (f n ∷ []) (all-listed test n f (λ k b. h k (omega arith))) (ap (λ b. b && true) (h n (omega arith)))
 
-name-token : (c : Named) (r : ℕ) → HasNames c → r < c.meaning.size → is_token_text (texts.name_at c r) ≡ true
+name-token : (c : NamedAlgebra) (r : ℕ) → HasNames c → r < c.algebra.size → is_token_text (texts.name_at c r) ≡ true
 name-token c r h below = (IsPrintedName-from_test (texts.name_at c r) (name_at-is_name c r h below)).token
 
 both : (a b : Bool) → a ≡ true → b ≡ true → a && b ≡ true
 both a b h k = ap (λ x. x && b) h ∙ k
 
-converse-tokens : (c : Named) (r : ℕ) → HasNames c → r < c.meaning.size → are_tokens (converse_words c r) ≡ true
+converse-tokens : (c : NamedAlgebra) (r : ℕ) → HasNames c → r < c.algebra.size → are_tokens (converse_words c r) ≡ true
 converse-tokens c r h below =
-    both (is_token_text (texts.name_at c r)) (is_token_text (texts.name_at c (converse_at c.meaning r)) && true) (name-token c r h below)
-    (ap (λ b. b && true) (name-token c (converse_at c.meaning r) h (h.lawful.lawful.table.converse_below r below)))
+    both (is_token_text (texts.name_at c r)) (is_token_text (texts.name_at c (converse_at c.algebra r)) && true) (name-token c r h below)
+    (ap (λ b. b && true) (name-token c (converse_at c.algebra r) h (h.lawful.lawful.table.converse_below r below)))
 
-entry-tokens : (c : Named) (r s : ℕ) → HasNames c → r < c.meaning.size → s < c.meaning.size → are_tokens (entry_words c r s) ≡ true
+entry-tokens : (c : NamedAlgebra) (r s : ℕ) → HasNames c → r < c.algebra.size → s < c.algebra.size → are_tokens (entry_words c r s) ≡ true
 entry-tokens c r s h b1 b2 =
-    let ms = members c (entry_at c.meaning r s) in
+    let ms = members c (entry_at c.algebra r s) in
     both (is_token_text (texts.name_at c r)) (is_token_text (texts.name_at c s) && list_all is_token_text (ms ++ (codes ")" ∷ []))) (name-token c r h b1)
     (both (is_token_text (texts.name_at c s)) (list_all is_token_text (ms ++ (codes ")" ∷ []))) (name-token c s h b2)
-    (closed-tokens ms (members-names c.names (entry_at c.meaning r s) c.meaning.size h.names (omega (arith, size-is c h)))))
+    (closed-tokens ms (members-names c.names (entry_at c.algebra r s) c.algebra.size h.names (omega (arith, size-is c h)))))
 
-row-tokens : (c : Named) (r : ℕ) → HasNames c → r ≤ c.meaning.size → list_all are_tokens (row_lines c r) ≡ true
+row-tokens : (c : NamedAlgebra) (r : ℕ) → HasNames c → r ≤ c.algebra.size → list_all are_tokens (row_lines c r) ≡ true
 unfolding row_lines
 row-tokens c zero h small = refl
 row-tokens c (suc r) h small =
-    all-append are_tokens (row_lines c r) (listed c.meaning.size (entry_words c r)) (row-tokens c r h (omega arith))
-    (all-listed are_tokens c.meaning.size (entry_words c r) (λ s b. entry-tokens c r s h (omega arith) b))
+    all-append are_tokens (row_lines c r) (listed c.algebra.size (entry_words c r)) (row-tokens c r h (omega arith))
+    (all-listed are_tokens c.algebra.size (entry_words c r) (λ s b. entry-tokens c r s h (omega arith) b))
 
-table-tokens : (c : Named) → HasNames c → list_all are_tokens (table_lines c) ≡ true
+table-tokens : (c : NamedAlgebra) → HasNames c → list_all are_tokens (table_lines c) ≡ true
 table-tokens c h =
-    let n = c.meaning.size in
+    let n = c.algebra.size in
     both (list_all is_token_text (listed n (texts.name_at c) ++ (codes ")" ∷ []))) (are_tokens (identity_words c) && list_all are_tokens (listed n (converse_words c) ++ (row_lines c n ++ end_lines)))
     (all-append is_token_text (listed n (texts.name_at c)) (codes ")" ∷ []) (all-listed is_token_text n (texts.name_at c) (λ k b. name-token c k h b)) refl)
     (both (are_tokens (identity_words c)) (list_all are_tokens (listed n (converse_words c) ++ (row_lines c n ++ end_lines)))
-    (ap (λ b. b && true) (name-token c c.meaning.identity h h.lawful.lawful.table.identity_below))
+    (ap (λ b. b && true) (name-token c c.algebra.identity h h.lawful.lawful.table.identity_below))
     (all-append are_tokens (listed n (converse_words c)) (row_lines c n ++ end_lines)
     (all-listed are_tokens n (converse_words c) (λ r b. converse-tokens c r h b))
     (all-append are_tokens (row_lines c n) end_lines (row-tokens c n h (omega arith)) refl)))
@@ -111,7 +111,7 @@ reads-append (l ∷ ls) ys g h k e r = (e.0, e.1, e.2, reads-append ls ys e.0 h 
 statements-reads : (end : ℕ) (xs ys : List TokenLine) (g h : Given) → Reads xs g h → statements end (xs ++ ys) g ≡ statements end ys h
 statements-reads end [] ys g h e = ap (statements end ys) e
 statements-reads end (l ∷ ls) ys g h e =
-    ap (λ b. cond b (nothing_behind (ls ++ ys) g) (stated l g then λ m. statements end (ls ++ ys) m)) e.1
+    ap (λ b. cond b (nothing_after (ls ++ ys) g) (stated l g then λ m. statements end (ls ++ ys) m)) e.1
     ∙ ap (λ r. r then λ m. statements end (ls ++ ys) m) e.2
     ∙ statements-reads end ls ys e.0 h e.3
 
@@ -148,71 +148,71 @@ values-given [] = refl
 values-given (x ∷ xs) = ap (λ ys. x ∷ ys) (values-given xs)
 
 -- the names and the identity, the first k converses and the first e compositions
-abbrev upto : Named → ℕ → ℕ → Given
-upto c k e = record { names = c.names; identity = c.meaning.identity; converses = front c.meaning.converses k; entries = front c.meaning.table e }
+abbrev upto : NamedAlgebra → ℕ → ℕ → Given
+upto c k e = record { names = c.names; identity = c.algebra.identity; converses = front c.algebra.converses k; entries = front c.algebra.table e }
 
 -- ---- the lines of converses and compositions
 abbrev lex : List ℕ → Lexeme
 lex w = lexeme_from w
 
-word-of : (c : Named) (r : ℕ) → HasNames c → r < c.meaning.size → is_name_token (lex (texts.name_at c r)) ≡ true
+word-of : (c : NamedAlgebra) (r : ℕ) → HasNames c → r < c.algebra.size → is_name_token (lex (texts.name_at c r)) ≡ true
 word-of c r h below = (IsPrintedName-from_test (texts.name_at c r) (name_at-is_name c r h below)).word
 
 name-read : (x : Lexeme) (xs : List Lexeme) → is_name_token x ≡ true → name_at (x ∷ xs) ≡ Some (x.text, xs)
 name-read x xs h = ap (λ b. cond b (Some (x.text, xs)) None) h
 
-no-end : (c : Named) (r : ℕ) (xs : List Lexeme) → HasNames c → r < c.meaning.size → is_end_line (lex (texts.name_at c r) ∷ xs) ≡ false
+no-end : (c : NamedAlgebra) (r : ℕ) (xs : List Lexeme) → HasNames c → r < c.algebra.size → is_end_line (lex (texts.name_at c r) ∷ xs) ≡ false
 no-end c r xs h below =
     let is = IsNameText-from_test (texts.name_at c r) (name_at-is_name c r h below) in
     ap (λ k. ends_there (cond (is_same_kind k Stop) (Some xs) None)) (kind_of-word (texts.name_at c r) is.word is.no_stop)
 
-converse-form : (c : Named) (r s : ℕ) → HasNames c → r < c.meaning.size → s < c.meaning.size
+converse-form : (c : NamedAlgebra) (r s : ℕ) → HasNames c → r < c.algebra.size → s < c.algebra.size
     → statement_line c.names (lex (texts.name_at c r) ∷ lex (codes "::") ∷ lex (texts.name_at c s) ∷ []) ≡ Some (Converse (Some r) (Some s))
 converse-form c r s h b1 b2 =
     let x = lex (texts.name_at c r) in
     let y = lex (texts.name_at c s) in
     let rest = lex (codes "::") ∷ y ∷ [] in
     let line : converse_line c.names (x ∷ rest) ≡ Some (Converse (Some r) (Some s)) =
-    ap (λ o. o >>= λ first. behind_kind Colons first.1 >>= behind_colons c.names (place_of first.0 c.names)) (name-read x rest (word-of c r h b1))
+    ap (λ o. o >>= λ first. after_kind Colons first.1 >>= after_colons c.names (place_of first.0 c.names)) (name-read x rest (word-of c r h b1))
     ∙ ap (λ o. o >>= λ second. at_end (Converse (place_of (texts.name_at c r) c.names) (place_of second.0 c.names)) second.1) (name-read y [] (word-of c s h b2))
     ∙ ap (λ o. Some (Converse o (place_of (texts.name_at c s) c.names))) (place_of-name c r h b1)
     ∙ ap (λ o. Some (Converse (Some r) o)) (place_of-name c s h b2) in
     ap (λ o. or_else o (entry_line c.names (x ∷ rest))) line
 
-entry-form : (c : Named) (r s : ℕ) → HasNames c → r < c.meaning.size → s < c.meaning.size
-    → statement_line c.names (map lexeme_from (entry_words c r s)) ≡ Some (Entry (Some r) (Some s) (Some (entry_at c.meaning r s)))
+entry-form : (c : NamedAlgebra) (r s : ℕ) → HasNames c → r < c.algebra.size → s < c.algebra.size
+    → statement_line c.names (map lexeme_from (entry_words c r s)) ≡ Some (Entry (Some r) (Some s) (Some (entry_at c.algebra r s)))
 entry-form c r s h b1 b2 =
-    let a = entry_at c.meaning r s in
+    let a = entry_at c.algebra r s in
     let ms = members c a in
     let x = lex (texts.name_at c r) in
     let y = lex (texts.name_at c s) in
     let inner = map lexeme_from (codes "(" ∷ (ms ++ (codes ")" ∷ []))) in
     let more = lex (codes "::") ∷ inner in
     let rest = lex (codes ":") ∷ y ∷ more in
-    let is_names : list_all is_name ms ≡ true = members-names c.names a c.meaning.size h.names (omega (arith, size-is c h)) in
+    let is_names : list_all is_name ms ≡ true = members-names c.names a c.algebra.size h.names (omega (arith, size-is c h)) in
     let no : converse_line c.names (x ∷ rest) ≡ None =
-    ap (λ o. o >>= λ first. behind_kind Colons first.1 >>= behind_colons c.names (place_of first.0 c.names)) (name-read x rest (word-of c r h b1)) in
+    ap (λ o. o >>= λ first. after_kind Colons first.1 >>= after_colons c.names (place_of first.0 c.names)) (name-read x rest (word-of c r h b1)) in
     let line : entry_line c.names (x ∷ rest) ≡ Some (Entry (Some r) (Some s) (Some a)) =
-    ap (λ o. o >>= λ first. behind_kind Colon first.1 >>= behind_colon c.names (place_of first.0 c.names)) (name-read x rest (word-of c r h b1))
-    ∙ ap (λ o. o >>= λ second. behind_kind Colons second.1 >>= λ rest. names_at rest >>= λ found.
+    ap (λ o. o >>= λ first. after_kind Colon first.1 >>= after_colon c.names (place_of first.0 c.names)) (name-read x rest (word-of c r h b1))
+    ∙ ap (λ o. o >>= λ second. after_kind Colons second.1 >>= λ rest. names_at rest >>= λ found.
     at_end (Entry (place_of (texts.name_at c r) c.names) (place_of second.0 c.names) (set_of c.names found.0)) found.1) (name-read y more (word-of c s h b2))
     ∙ ap (λ o. o >>= λ found. at_end (Entry (place_of (texts.name_at c r) c.names) (place_of (texts.name_at c s) c.names) (set_of c.names found.0)) found.1) (IsPrintedSet-from_tests ms [] is_names).read
     ∙ ap (λ o. Some (Entry o (place_of (texts.name_at c s) c.names) (set_of c.names ms))) (place_of-name c r h b1)
     ∙ ap (λ o. Some (Entry (Some r) o (set_of c.names ms))) (place_of-name c s h b2)
-    ∙ ap (λ o. Some (Entry (Some r) (Some s) o)) (set_of-members c.names c.meaning a h.lawful.distinct (size-is c h) (h.lawful.lawful.table.entry_within r s b1 b2)) in
+    ∙ ap (λ o. Some (Entry (Some r) (Some s) o)) (set_of-members c.names c.algebra a h.lawful.distinct (size-is c h) (h.lawful.lawful.table.entry_within r s b1 b2)) in
     ap (λ o. or_else o (entry_line c.names (x ∷ rest))) no ∙ line
 
-converse-given : (c : Named) (m r : ℕ) → HasNames c → r < c.meaning.size → stated (token_line m (map lexeme_from (converse_words c r))) (upto c r 0) ≡ Ok (upto c (suc r) 0)
+converse-given : (c : NamedAlgebra) (m r : ℕ) → HasNames c → r < c.algebra.size → stated (token_line m (map lexeme_from (converse_words c r))) (upto c r 0) ≡ Ok (upto c (suc r) 0)
 converse-given c m r h below =
     let t = h.lawful.lawful.table in
-    let j = converse_at c.meaning r in
+    let j = converse_at c.algebra r in
     let g = upto c r 0 in
     let with : List (Option ℕ) → Given = λ x. record g { converses = x } in
     ap (λ o. formed m o then λ s. said m s g) (converse-form c r j h below (t.converse_below r below))
-    ∙ ap (λ o. cond (is_some o) (Err (Twice m)) (Ok (with (slice_set g.converses r (Some j))))) (front-open c.meaning.converses r)
-    ∙ ap (λ x. Ok (with x)) (front-next c.meaning.converses r (omega (arith, t.converses_length)))
+    ∙ ap (λ o. cond (is_some o) (Err (Twice m)) (Ok (with (slice_set g.converses r (Some j))))) (front-open c.algebra.converses r)
+    ∙ ap (λ x. Ok (with x)) (front-next c.algebra.converses r (omega (arith, t.converses_length)))
 
-converse-reads : (c : Named) (m k : ℕ) → HasNames c → k ≤ c.meaning.size → Reads (printed_token_lines m (listed k (converse_words c))) (upto c 0 0) (upto c k 0)
+converse-reads : (c : NamedAlgebra) (m k : ℕ) → HasNames c → k ≤ c.algebra.size → Reads (printed_token_lines m (listed k (converse_words c))) (upto c 0 0) (upto c k 0)
 unfolding listed
 converse-reads c m zero h small = refl
 converse-reads c m (suc k) h small =
@@ -220,39 +220,39 @@ converse-reads c m (suc k) h small =
     subst (λ ls. Reads ls (upto c 0 0) (upto c (suc k) 0)) (sym (token_lines-append m xs (converse_words c k ∷ [])))
     (reads-append (printed_token_lines m xs) (printed_token_lines (m + length xs) (converse_words c k ∷ [])) (upto c 0 0) (upto c k 0) (upto c (suc k) 0)
     (converse-reads c m k h (omega arith))
-    (upto c (suc k) 0, no-end c k (lex (codes "::") ∷ lex (texts.name_at c (converse_at c.meaning k)) ∷ []) h (omega arith), converse-given c (m + length xs) k h (omega arith), refl))
+    (upto c (suc k) 0, no-end c k (lex (codes "::") ∷ lex (texts.name_at c (converse_at c.algebra k)) ∷ []) h (omega arith), converse-given c (m + length xs) k h (omega arith), refl))
 
-entry-given : (c : Named) (m r s : ℕ) → HasNames c → r < c.meaning.size → s < c.meaning.size
-    → stated (token_line m (map lexeme_from (entry_words c r s))) (upto c c.meaning.size (r * c.meaning.size + s)) ≡ Ok (upto c c.meaning.size (suc (r * c.meaning.size + s)))
+entry-given : (c : NamedAlgebra) (m r s : ℕ) → HasNames c → r < c.algebra.size → s < c.algebra.size
+    → stated (token_line m (map lexeme_from (entry_words c r s))) (upto c c.algebra.size (r * c.algebra.size + s)) ≡ Ok (upto c c.algebra.size (suc (r * c.algebra.size + s)))
 entry-given c m r s h b1 b2 =
     let t = h.lawful.lawful.table in
-    let n = c.meaning.size in
+    let n = c.algebra.size in
     let k = r * n + s in
     let g = upto c n k in
     let with : List (Option ℕ) → Given = λ x. record g { entries = x } in
-    let place : ℕ → Result Given LoadFault = λ q. cond (is_some (get_or g.entries (r * q + s) None)) (Err (Twice m)) (Ok (with (slice_set g.entries (r * q + s) (Some (entry_at c.meaning r s))))) in
+    let place : ℕ → Result Given LoadFault = λ q. cond (is_some (get_or g.entries (r * q + s) None)) (Err (Twice m)) (Ok (with (slice_set g.entries (r * q + s) (Some (entry_at c.algebra r s))))) in
     ap (λ o. formed m o then λ s. said m s g) (entry-form c r s h b1 b2)
     ∙ ap place (size-is c h)
-    ∙ ap (λ o. cond (is_some o) (Err (Twice m)) (Ok (with (slice_set g.entries k (Some (entry_at c.meaning r s)))))) (front-open c.meaning.table k)
-    ∙ ap (λ x. Ok (with x)) (front-next c.meaning.table k (subst (λ q. k < q) (sym t.table_length) (mul-add-lt r n s n b1 b2)))
+    ∙ ap (λ o. cond (is_some o) (Err (Twice m)) (Ok (with (slice_set g.entries k (Some (entry_at c.algebra r s)))))) (front-open c.algebra.table k)
+    ∙ ap (λ x. Ok (with x)) (front-next c.algebra.table k (subst (λ q. k < q) (sym t.table_length) (mul-add-lt r n s n b1 b2)))
 
-row-reads : (c : Named) (m r s : ℕ) → HasNames c → r < c.meaning.size → s ≤ c.meaning.size
-    → Reads (printed_token_lines m (listed s (entry_words c r))) (upto c c.meaning.size (r * c.meaning.size)) (upto c c.meaning.size (r * c.meaning.size + s))
+row-reads : (c : NamedAlgebra) (m r s : ℕ) → HasNames c → r < c.algebra.size → s ≤ c.algebra.size
+    → Reads (printed_token_lines m (listed s (entry_words c r))) (upto c c.algebra.size (r * c.algebra.size)) (upto c c.algebra.size (r * c.algebra.size + s))
 unfolding listed
-row-reads c m r zero h b1 small = ap (upto c c.meaning.size) (omega arith)
+row-reads c m r zero h b1 small = ap (upto c c.algebra.size) (omega arith)
 row-reads c m r (suc s) h b1 small =
-    let n = c.meaning.size in
+    let n = c.algebra.size in
     let xs = listed s (entry_words c r) in
     subst (λ ls. Reads ls (upto c n (r * n)) (upto c n (r * n + suc s))) (sym (token_lines-append m xs (entry_words c r s ∷ [])))
     (reads-append (printed_token_lines m xs) (printed_token_lines (m + length xs) (entry_words c r s ∷ [])) (upto c n (r * n)) (upto c n (r * n + s)) (upto c n (r * n + suc s))
     (row-reads c m r s h b1 (omega arith))
-    (upto c n (suc (r * n + s)), no-end c r (map lexeme_from (codes ":" ∷ texts.name_at c s ∷ codes "::" ∷ codes "(" ∷ (members c (entry_at c.meaning r s) ++ (codes ")" ∷ [])))) h b1, entry-given c (m + length xs) r s h b1 (omega arith), ap (upto c n) (omega arith)))
+    (upto c n (suc (r * n + s)), no-end c r (map lexeme_from (codes ":" ∷ texts.name_at c s ∷ codes "::" ∷ codes "(" ∷ (members c (entry_at c.algebra r s) ++ (codes ")" ∷ [])))) h b1, entry-given c (m + length xs) r s h b1 (omega arith), ap (upto c n) (omega arith)))
 
-rows-read : (c : Named) (m r : ℕ) → HasNames c → r ≤ c.meaning.size → Reads (printed_token_lines m (row_lines c r)) (upto c c.meaning.size 0) (upto c c.meaning.size (r * c.meaning.size))
+rows-read : (c : NamedAlgebra) (m r : ℕ) → HasNames c → r ≤ c.algebra.size → Reads (printed_token_lines m (row_lines c r)) (upto c c.algebra.size 0) (upto c c.algebra.size (r * c.algebra.size))
 unfolding row_lines
-rows-read c m zero h small = ap (upto c c.meaning.size) (omega arith)
+rows-read c m zero h small = ap (upto c c.algebra.size) (omega arith)
 rows-read c m (suc r) h small =
-    let n = c.meaning.size in
+    let n = c.algebra.size in
     let xs = row_lines c r in
     let ys = listed n (entry_words c r) in
     subst (λ ls. Reads ls (upto c n 0) (upto c n (suc r * n))) (sym (token_lines-append m xs ys))
@@ -261,11 +261,11 @@ rows-read c m (suc r) h small =
     (subst (λ e. Reads (printed_token_lines (m + length xs) ys) (upto c n (r * n)) (upto c n e)) (grind arith) (row-reads c (m + length xs) r n h (omega arith) (omega arith))))
 
 -- ---- the whole
-statements-again : (c : Named) (end m : ℕ) → HasNames c
-    → statements end (printed_token_lines m (listed c.meaning.size (converse_words c) ++ (row_lines c c.meaning.size ++ end_lines))) (upto c 0 0)
-    ≡ Ok (upto c c.meaning.size (c.meaning.size * c.meaning.size))
+statements-again : (c : NamedAlgebra) (end m : ℕ) → HasNames c
+    → statements end (printed_token_lines m (listed c.algebra.size (converse_words c) ++ (row_lines c c.algebra.size ++ end_lines))) (upto c 0 0)
+    ≡ Ok (upto c c.algebra.size (c.algebra.size * c.algebra.size))
 statements-again c end m h =
-    let n = c.meaning.size in
+    let n = c.algebra.size in
     let xs = listed n (converse_words c) in
     let ys = row_lines c n in
     let k = m + length xs in
@@ -278,9 +278,9 @@ some-names : (names : List (List ℕ)) → 0 < length names → some_names names
 some-names [] h = absurd (omega arith)
 some-names (x ∷ xs) h = refl
 
-names-again : (c : Named) (line : ℕ) → HasNames c → named line (map lexeme_from (names_words c)) ≡ Ok c.names
+names-again : (c : NamedAlgebra) (line : ℕ) → HasNames c → named line (map lexeme_from (names_words c)) ≡ Ok c.names
 names-again c line h =
-    let ns = listed c.meaning.size (texts.name_at c) in
+    let ns = listed c.algebra.size (texts.name_at c) in
     let same = listed-names c h in
     let form : names_line (map lexeme_from (codes "names" ∷ codes "(" ∷ (c.names ++ (codes ")" ∷ [])))) ≡ Some c.names =
     ap (λ o. o >>= λ found. at_end found.0 found.1 >>= some_names) (IsPrintedSet-from_tests c.names [] h.names).read
@@ -289,46 +289,46 @@ names-again c line h =
     ∙ ap (λ o. formed line o then allowed_names line) form
     ∙ allowed_names-again c line h
 
-identity-again : (c : Named) (line : ℕ) → HasNames c → identified c.names line (map lexeme_from (identity_words c)) ≡ Ok c.meaning.identity
+identity-again : (c : NamedAlgebra) (line : ℕ) → HasNames c → identified c.names line (map lexeme_from (identity_words c)) ≡ Ok c.algebra.identity
 identity-again c line h =
-    let x = lex (texts.name_at c c.meaning.identity) in
+    let x = lex (texts.name_at c c.algebra.identity) in
     let below = h.lawful.lawful.table.identity_below in
-    ap (λ o. formed line (o >>= λ found. at_end found.0 found.1) then λ name. known line (place_of name c.names)) (name-read x [] (word-of c c.meaning.identity h below))
-    ∙ ap (known line) (place_of-name c c.meaning.identity h below)
+    ap (λ o. formed line (o >>= λ found. at_end found.0 found.1) then λ name. known line (place_of name c.names)) (name-read x [] (word-of c c.algebra.identity h below))
+    ∙ ap (known line) (place_of-name c c.algebra.identity h below)
 
-nothing-upto : (c : Named) → HasNames c → nothing_given c.names c.meaning.identity ≡ upto c 0 0
+nothing-upto : (c : NamedAlgebra) → HasNames c → nothing_given c.names c.algebra.identity ≡ upto c 0 0
 nothing-upto c h =
     let t = h.lawful.lawful.table in
-    let converses : List (Option ℕ) → Given = λ x. record { names = c.names; identity = c.meaning.identity; converses = x; entries = replicate (length c.names * length c.names) None } in
-    let entries : List (Option ℕ) → Given = λ x. record { names = c.names; identity = c.meaning.identity; converses = front c.meaning.converses 0; entries = x } in
-    ap converses (ap (λ n. replicate n None) (size-is c h ∙ sym t.converses_length) ∙ front-none c.meaning.converses)
-    ∙ ap entries (ap (λ n. replicate (n * n) None) (size-is c h) ∙ ap (λ n. replicate n None) (sym t.table_length) ∙ front-none c.meaning.table)
+    let converses : List (Option ℕ) → Given = λ x. record { names = c.names; identity = c.algebra.identity; converses = x; entries = replicate (length c.names * length c.names) None } in
+    let entries : List (Option ℕ) → Given = λ x. record { names = c.names; identity = c.algebra.identity; converses = front c.algebra.converses 0; entries = x } in
+    ap converses (ap (λ n. replicate n None) (size-is c h ∙ sym t.converses_length) ∙ front-none c.algebra.converses)
+    ∙ ap entries (ap (λ n. replicate (n * n) None) (size-is c h) ∙ ap (λ n. replicate n None) (sym t.table_length) ∙ front-none c.algebra.table)
 
-lines-read : (c : Named) (end : ℕ) → HasNames c → from_names end (printed_token_lines 1 (table_lines c)) ≡ Ok (upto c c.meaning.size (c.meaning.size * c.meaning.size))
+lines-read : (c : NamedAlgebra) (end : ℕ) → HasNames c → from_names end (printed_token_lines 1 (table_lines c)) ≡ Ok (upto c c.algebra.size (c.algebra.size * c.algebra.size))
 lines-read c end h =
-    let n = c.meaning.size in
+    let n = c.algebra.size in
     let rest = listed n (converse_words c) ++ (row_lines c n ++ end_lines) in
     ap (λ r. r then from_identity end (printed_token_lines 2 (identity_words c ∷ rest))) (names-again c 1 h)
     ∙ ap (λ r. r then λ id. statements end (printed_token_lines 3 rest) (nothing_given c.names id)) (identity-again c 2 h)
     ∙ ap (statements end (printed_token_lines 3 rest)) (nothing-upto c h)
     ∙ statements-again c end 3 h
 
-complete-again : (c : Named) → HasNames c → complete (upto c c.meaning.size (c.meaning.size * c.meaning.size)) ≡ Ok c
+complete-again : (c : NamedAlgebra) → HasNames c → complete (upto c c.algebra.size (c.algebra.size * c.algebra.size)) ≡ Ok c
 complete-again c h =
     let t = h.lawful.lawful.table in
-    let n = c.meaning.size in
+    let n = c.algebra.size in
     let g = upto c n (n * n) in
-    let converses : g.converses ≡ map (λ x. Some x) c.meaning.converses = ap (front c.meaning.converses) (sym t.converses_length) ∙ front-all c.meaning.converses in
-    let entries : g.entries ≡ map (λ x. Some x) c.meaning.table = ap (front c.meaning.table) (sym t.table_length) ∙ front-all c.meaning.table in
-    let with_converses : List ℕ → Named = λ x. record { names = c.names; meaning = record { size = length c.names; identity = c.meaning.identity; converses = x; table = map value_of g.entries } } in
-    let with_table : List ℕ → Named = λ x. record { names = c.names; meaning = record { size = length c.names; identity = c.meaning.identity; converses = c.meaning.converses; table = x } } in
-    let with_size : ℕ → Named = λ x. record { names = c.names; meaning = record { size = x; identity = c.meaning.identity; converses = c.meaning.converses; table = c.meaning.table } } in
-    complete-given g (ap first_missing converses ∙ none-missing c.meaning.converses 0) (ap first_missing entries ∙ none-missing c.meaning.table 0)
-    ∙ ap (λ x. Ok (with_converses x)) (ap (map value_of) converses ∙ values-given c.meaning.converses)
-    ∙ ap (λ x. Ok (with_table x)) (ap (map value_of) entries ∙ values-given c.meaning.table)
+    let converses : g.converses ≡ map (λ x. Some x) c.algebra.converses = ap (front c.algebra.converses) (sym t.converses_length) ∙ front-all c.algebra.converses in
+    let entries : g.entries ≡ map (λ x. Some x) c.algebra.table = ap (front c.algebra.table) (sym t.table_length) ∙ front-all c.algebra.table in
+    let with_converses : List ℕ → NamedAlgebra = λ x. record { names = c.names; algebra = record { size = length c.names; identity = c.algebra.identity; converses = x; table = map value_of g.entries } } in
+    let with_table : List ℕ → NamedAlgebra = λ x. record { names = c.names; algebra = record { size = length c.names; identity = c.algebra.identity; converses = c.algebra.converses; table = x } } in
+    let with_size : ℕ → NamedAlgebra = λ x. record { names = c.names; algebra = record { size = x; identity = c.algebra.identity; converses = c.algebra.converses; table = c.algebra.table } } in
+    complete-given g (ap first_missing converses ∙ none-missing c.algebra.converses 0) (ap first_missing entries ∙ none-missing c.algebra.table 0)
+    ∙ ap (λ x. Ok (with_converses x)) (ap (map value_of) converses ∙ values-given c.algebra.converses)
+    ∙ ap (λ x. Ok (with_table x)) (ap (map value_of) entries ∙ values-given c.algebra.table)
     ∙ ap (λ x. Ok (with_size x)) (size-is c h)
 
-pub text-again : (c : Named) → HasNames c → table_of (table_text c) ≡ Ok c
+pub text-again : (c : NamedAlgebra) → HasNames c → table_of (table_text c) ≡ Ok c
 text-again c h =
     let text = table_lines c in
     let again = IsReadAgain-from_tokens text (table-tokens c h) in

@@ -1,7 +1,7 @@
 -- What the lines of a table file have given so far.
 use Rattle.std.specs.Prelude.{ℕ, ◌+◌, ◌*◌, ◌/◌, ◌%◌, List, [], ◌∷◌, map, length, slice_index_or, slice_set, Option, Some, None, is_some, unwrap_or, Result, Ok, Err, if◌then◌else◌}
-use Rattle.calculus_table.specs.Meaning.{Meaning}
-use Rattle.calculus_table.specs.Calculus.{Named, IsTable}
+use Rattle.calculus_table.specs.Algebra.{Algebra}
+use Rattle.calculus_table.specs.Calculus.{NamedAlgebra, IsTable}
 use Rattle.calculus_load.specs.declared.fault.LoadFault.{LoadFault}
 use Rattle.calculus_load.specs.declared.fault.LoadFault.TheVariants.{Missing, Twice}
 
@@ -18,12 +18,12 @@ abbrev pub value_of : Option ℕ → ℕ
 value_of given = unwrap_or given 0
 
 -- the table of numbers so far, with 0 for what was not given
-abbrev pub meaning_of : Given → Meaning
-meaning_of g = record { size = length g.names; identity = g.identity; converses = map value_of g.converses; table = map value_of g.entries }
+abbrev pub algebra_of : Given → Algebra
+algebra_of g = record { size = length g.names; identity = g.identity; converses = map value_of g.converses; table = map value_of g.entries }
 
 -- every list has its length, and what was given has its bound
 abbrev pub HasShape : Given → Type 0
-HasShape g = IsTable (meaning_of g)
+HasShape g = IsTable (algebra_of g)
 
 -- the converse of a is b, by this line
 abbrev pub give_converse : ℕ → ℕ → ℕ → Given → Result Given LoadFault
@@ -47,15 +47,15 @@ abbrev pub first_missing : {A : Type 0} → List (Option A) → Option ℕ
 first_missing xs = first_missing_from 0 xs
 
 -- the fault of a missing pair, the first in lexicographic order, or what was given as a table
-abbrev pub with_entries : Given → Option ℕ → Result Named LoadFault
+abbrev pub with_entries : Given → Option ℕ → Result NamedAlgebra LoadFault
 with_entries g (Some k) = Err (Missing (k / length g.names) (Some (k % length g.names)))
-with_entries g None = Ok (record { names = g.names; meaning = meaning_of g })
+with_entries g None = Ok (record { names = g.names; algebra = algebra_of g })
 
 -- the fault of a missing converse, the first in ascending order, or else as the pairs say
-abbrev pub with_converses : Given → Option ℕ → Result Named LoadFault
+abbrev pub with_converses : Given → Option ℕ → Result NamedAlgebra LoadFault
 with_converses g (Some r) = Err (Missing r None)
 with_converses g None = with_entries g (first_missing g.entries)
 
 -- the whole table, where every converse and every pair was given
-abbrev pub complete : Given → Result Named LoadFault
+abbrev pub complete : Given → Result NamedAlgebra LoadFault
 complete g = with_converses g (first_missing g.converses)

@@ -6,11 +6,11 @@ use Rattle.calculus_table.specs.declared.calculus.TableFault.TheVariants.{NameTw
 use Rattle.calculus_load.specs.declared.fault.LoadFault.{LoadFault}
 use Rattle.calculus_load.specs.declared.fault.LoadFault.TheVariants.{TooMany, Table}
 
--- the place of the first name that stands before it too, behind the names that stand before
-abbrev pub repeat_behind : List (List ℕ) → List (List ℕ) → Option ℕ
-repeat_behind before [] = None
-repeat_behind before (name ∷ names) =
-    if list_any (bytes_eq name) before then Some (length before) else repeat_behind (before ++ (name ∷ [])) names
+-- the place of the first name that stands before it too, after the names that stand before
+abbrev pub repeat_after : List (List ℕ) → List (List ℕ) → Option ℕ
+repeat_after before [] = None
+repeat_after before (name ∷ names) =
+    if list_any (bytes_eq name) before then Some (length before) else repeat_after (before ++ (name ∷ [])) names
 
 -- the names of the base relations, unless there are too many, or one stands twice
 abbrev pub unless_repeated : List (List ℕ) → Option ℕ → Result (List (List ℕ)) LoadFault
@@ -19,4 +19,4 @@ unless_repeated names None = Ok names
 
 abbrev pub allowed_names : ℕ → List (List ℕ) → Result (List (List ℕ)) LoadFault
 allowed_names line names =
-    if nat_lt MAX_BASES (length names) then Err (TooMany line) else unless_repeated names (repeat_behind [] names)
+    if nat_lt MAX_BASES (length names) then Err (TooMany line) else unless_repeated names (repeat_after [] names)

@@ -1,7 +1,7 @@
 -- The forms of the lines of a table file.
 use Rattle.std.specs.Prelude.{ℕ, ◌-◌, ◌^◌, ◌<◌, List, [], ◌∷◌, Option, Some, None, IfSome, codes}
 use Rattle.qsr_lex.specs.Lexemes.{Lexeme}
-use Rattle.qsr_lex.specs.Words.{name_at, names_at, behind_kind, behind_word, ◌>>=◌, at_end}
+use Rattle.qsr_lex.specs.Words.{name_at, names_at, after_kind, after_word, ◌>>=◌, at_end}
 use Rattle.qsr_lex.specs.declared.tokens.TokenKind.TheVariants.{Colon, Colons}
 use Rattle.calculus_table.specs.Rel.{IsWithin}
 use Rattle.calculus_table.specs.Names.{place_of}
@@ -16,27 +16,27 @@ some_names (name ∷ names) = Some (name ∷ names)
 
 -- `names ( N1 N2 .. Nn )`
 abbrev pub names_line : List Lexeme → Option (List (List ℕ))
-names_line words = behind_word (codes "names") words >>= λ rest. names_at rest >>= λ found. at_end found.0 found.1 >>= some_names
+names_line words = after_word (codes "names") words >>= λ rest. names_at rest >>= λ found. at_end found.0 found.1 >>= some_names
 
 -- `identity N`
 abbrev pub identity_line : List Lexeme → Option (List ℕ)
-identity_line words = behind_word (codes "identity") words >>= λ rest. name_at rest >>= λ found. at_end found.0 found.1
+identity_line words = after_word (codes "identity") words >>= λ rest. name_at rest >>= λ found. at_end found.0 found.1
 
 -- `A :: B`: the converse of A is B
-abbrev pub behind_colons : List (List ℕ) → Option ℕ → List Lexeme → Option Statement
-behind_colons names first words = name_at words >>= λ second. at_end (Converse first (place_of second.0 names)) second.1
+abbrev pub after_colons : List (List ℕ) → Option ℕ → List Lexeme → Option Statement
+after_colons names first words = name_at words >>= λ second. at_end (Converse first (place_of second.0 names)) second.1
 
 abbrev pub converse_line : List (List ℕ) → List Lexeme → Option Statement
-converse_line names words = name_at words >>= λ first. behind_kind Colons first.1 >>= behind_colons names (place_of first.0 names)
+converse_line names words = name_at words >>= λ first. after_kind Colons first.1 >>= after_colons names (place_of first.0 names)
 
 -- `A : B :: ( C D .. )`: the composition of A and B is the set of C, D, ..
-abbrev pub behind_colon : List (List ℕ) → Option ℕ → List Lexeme → Option Statement
-behind_colon names first words =
-    name_at words >>= λ second. behind_kind Colons second.1 >>= λ rest. names_at rest >>= λ found.
+abbrev pub after_colon : List (List ℕ) → Option ℕ → List Lexeme → Option Statement
+after_colon names first words =
+    name_at words >>= λ second. after_kind Colons second.1 >>= λ rest. names_at rest >>= λ found.
     at_end (Entry first (place_of second.0 names) (set_of names found.0)) found.1
 
 abbrev pub entry_line : List (List ℕ) → List Lexeme → Option Statement
-entry_line names words = name_at words >>= λ first. behind_kind Colon first.1 >>= behind_colon names (place_of first.0 names)
+entry_line names words = name_at words >>= λ first. after_kind Colon first.1 >>= after_colon names (place_of first.0 names)
 
 -- either of the two
 abbrev pub or_else : {A : Type 0} → Option A → Option A → Option A

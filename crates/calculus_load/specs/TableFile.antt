@@ -4,7 +4,7 @@ use Rattle.std.specs.Prelude.{◌≡◌, ℕ, ◌*◌, List, [], ◌∷◌, leng
 use Rattle.qsr_lex.specs.Lexemes.{Lexeme}
 use Rattle.qsr_lex.specs.TokenLines.{TokenLine}
 use Rattle.qsr_lex.specs.Words.{is_end_line}
-use Rattle.calculus_table.specs.Calculus.{Named}
+use Rattle.calculus_table.specs.Calculus.{NamedAlgebra}
 use Rattle.calculus_table.specs.TableFault.{IsFaultOf}
 use Rattle.calculus_load.specs.LinesToRead.{lines_to_read, end_place}
 use Rattle.calculus_load.specs.Given.{Given, give_converse, give_entry, complete}
@@ -41,15 +41,15 @@ said line (Entry a b set) g = known line a then λ a. known line b then λ b. kn
 abbrev pub stated : TokenLine → Given → Result Given LoadFault
 stated l g = formed l.number (statement_line g.names l.words) then λ s. said l.number s g
 
--- behind the end line there are only lines without tokens
-abbrev pub nothing_behind : List TokenLine → Given → Result Given LoadFault
-nothing_behind [] g = Ok g
-nothing_behind (l ∷ ls) g = Err (Syntax l.number)
+-- after the end line there are only lines without tokens
+abbrev pub nothing_after : List TokenLine → Given → Result Given LoadFault
+nothing_after [] g = Ok g
+nothing_after (l ∷ ls) g = Err (Syntax l.number)
 
--- what the lines behind the identity line give, up to the end line; a text that ends before it has its fault at `end`
+-- what the lines after the identity line give, up to the end line; a text that ends before it has its fault at `end`
 abbrev pub statements : ℕ → List TokenLine → Given → Result Given LoadFault
 statements end [] g = Err (Syntax end)
-statements end (l ∷ ls) g = if is_end_line l.words then nothing_behind ls g else (stated l g then λ h. statements end ls h)
+statements end (l ∷ ls) g = if is_end_line l.words then nothing_after ls g else (stated l g then λ h. statements end ls h)
 
 -- nothing given but the names and the identity
 abbrev pub nothing_given : List (List ℕ) → ℕ → Given
@@ -64,13 +64,13 @@ named line words = formed line (names_line words) then allowed_names line
 abbrev pub identified : List (List ℕ) → ℕ → List Lexeme → Result ℕ LoadFault
 identified names line words = formed line (identity_line words) then λ name. known line (place_of name names)
 
--- the identity line, and the lines behind it
+-- the identity line, and the lines after it
 abbrev pub from_identity : ℕ → List TokenLine → List (List ℕ) → Result Given LoadFault
 from_identity end [] names = Err (Syntax end)
 from_identity end (l ∷ ls) names =
     identified names l.number l.words then λ id. statements end ls (nothing_given names id)
 
--- the names line, and the lines behind it
+-- the names line, and the lines after it
 abbrev pub from_names : ℕ → List TokenLine → Result Given LoadFault
 from_names end [] = Err (Syntax end)
 from_names end (l ∷ ls) = named l.number l.words then from_identity end ls
@@ -80,7 +80,7 @@ abbrev pub given_by : List ℕ → Result Given LoadFault
 given_by bytes = from_names (end_place bytes) (lines_to_read bytes)
 
 -- the table of a text, before its laws are tested
-abbrev pub table_of : List ℕ → Result Named LoadFault
+abbrev pub table_of : List ℕ → Result NamedAlgebra LoadFault
 table_of bytes = given_by bytes then complete
 
 -- an answer's fault is the one that reading gives; want of memory says nothing
@@ -99,13 +99,13 @@ fault_of faults.Memory = Memory
 fault_of fault = Table fault
 
 -- the fault of a table of numbers; want of memory is none
-abbrev pub IsTableFaultOf : Named → TableFault → Type 0
+abbrev pub IsTableFaultOf : NamedAlgebra → TableFault → Type 0
 IsTableFaultOf c faults.Memory = ⊥
-IsTableFaultOf c fault = IsFaultOf c.names c.meaning fault
+IsTableFaultOf c fault = IsFaultOf c.names c.algebra fault
 
 -- the fault of a text: that of its lines, or of what is missing, or else of the table of numbers; want of memory says nothing of
 -- the text
-abbrev pub IsLoadFaultOf : Result Named LoadFault → LoadFault → Type 0
+abbrev pub IsLoadFaultOf : Result NamedAlgebra LoadFault → LoadFault → Type 0
 IsLoadFaultOf table Memory = Unit {0}
 IsLoadFaultOf (Err fault) other = other ≡ fault
 IsLoadFaultOf (Ok c) (Table fault) = IsTableFaultOf c fault

@@ -34,7 +34,7 @@ impl Draft {
     ghost use Rattle.std.specs.Prelude.{◌≡◌, ◌-◌, ◌^◌, ◌<◌, ◌≤◌, map, length, MatchResult, IfOk, IfErr, Ok, Err};
     ghost use Rattle.std.specs.String.{string_bytes};
     ghost use Rattle.calculus_table.specs.Rel.{IsWithin};
-    ghost use Rattle.calculus_table.specs.Calculus.{NamesItsBases};
+    ghost use Rattle.calculus_table.specs.Calculus.{IsNamedCalculus};
     ghost use Rattle.calculus_table.specs.declared.TheConstants.{MAX_BASES};
     ghost use Rattle.calculus_load.specs.Given.{Given, give_converse, give_entry, complete};
     ghost use Rattle.calculus_load.specs.Statements.{IsBoundedBy};
@@ -117,7 +117,7 @@ impl Draft {
     /// The calculus, where every converse and every composition was given and the laws hold.
     pub(crate) fn finish(self, alloc: Global) -> Result<Calculus, LoadFault>
         ensures ok { IfOk result (λ c. complete self ≡ Ok c) }
-        ensures lawful { IfOk result NamesItsBases }
+        ensures lawful { IfOk result IsNamedCalculus }
         ensures fault { IfErr result (IsLoadFaultOf (complete self)) }
     {
         let Draft {

@@ -3,7 +3,7 @@ use crate::fault::LoadFault;
 use qsr_lex::{LineReader, TextLine};
 use std::marker::Model;
 
-/// The lines of a text that are left, and behind them the line that can't be read, where there is one.
+/// The lines of a text that are left, and after them the line that can't be read, where there is one.
 #[derive(Drop)]
 pub(crate) struct TableLines<'a> {
     lines: LineReader<'a>,
@@ -31,7 +31,7 @@ impl<'a> TableLines<'a> {
         TableLines { lines, bad }
     }
 
-    /// The next line, and goes behind it. A line that can't be read is a fault of form.
+    /// The next line, and goes after it. A line that can't be read is a fault of form.
     pub(crate) fn next(&mut self) -> Result<Option<TextLine<'a>>, LoadFault>
         ensures { MatchResult result
             (λ next. MatchOption next ((self.old ≡ []) × (self.new ≡ [])) (λ line. self.old ≡ token_line line.number line.words ∷ self.new))

@@ -1,7 +1,7 @@
 //! The names of base relations.
 ghost use Rattle.std.specs.Prelude.{◌≡◌, ◌<◌, map, length, IfSome, bytes_eq, []};
 ghost use Rattle.std.specs.List.{list_any};
-ghost use Rattle.calculus_load.specs.Names.{repeat_behind};
+ghost use Rattle.calculus_load.specs.Names.{repeat_after};
 
 fn is_among(name: &[u8], names: &[&[u8]]) -> bool
     ensures { result ≡ list_any (λ other. bytes_eq name.now other.now) names.now }
@@ -11,7 +11,7 @@ fn is_among(name: &[u8], names: &[&[u8]]) -> bool
 
 /// The place of the first name that stands before it too.
 pub(crate) fn first_repeat(names: &[&[u8]]) -> Option<usize>
-    ensures value { result ≡ repeat_behind [] (map (λ name. name.now) names.now) }
+    ensures value { result ≡ repeat_after [] (map (λ name. name.now) names.now) }
     ensures below { IfSome result (λ at. at < length names.now) }
 {
     for at in 0..names.len() {

@@ -6,11 +6,11 @@ ghost use Rattle.qsr_lex.specs.Words.{names_at, is_end_line};
 ghost use Rattle.qsr_lex.specs.Tokens.{AreApart};
 ghost use Rattle.qsr_lex.specs.TokenLines.{by_line, token_line};
 ghost use Rattle.calculus_load.specs.LinesToRead.{bad_lines, lines_to_read, end_place};
-ghost use Rattle.calculus_table.specs.Calculus.{NamesItsBases};
+ghost use Rattle.calculus_table.specs.Calculus.{IsNamedCalculus};
 ghost use Rattle.calculus_table.specs.declared.TheConstants.{MAX_BASES};
 ghost use Rattle.calculus_load.specs.Names.{allowed_names};
-ghost use Rattle.calculus_load.specs.Statements.{names_line, identity_line, behind_colons, behind_colon, statement_line, IsBoundedBy};
-ghost use Rattle.calculus_load.specs.TableFile.{formed, known, named, identified, stated, nothing_behind, statements, from_identity, from_names, given_by, table_of, IsFaultIn, IsLoadFaultOf, IsLineTaken};
+ghost use Rattle.calculus_load.specs.Statements.{names_line, identity_line, after_colons, after_colon, statement_line, IsBoundedBy};
+ghost use Rattle.calculus_load.specs.TableFile.{formed, known, named, identified, stated, nothing_after, statements, from_identity, from_names, given_by, table_of, IsFaultIn, IsLoadFaultOf, IsLineTaken};
 
 use crate::draft::Draft;
 use crate::fault::LoadFault;
@@ -24,7 +24,7 @@ use qsr_lex::{
 };
 use std::alloc::Global;
 
-/// Names in brackets, and goes behind them.
+/// Names in brackets, and goes after them.
 fn names_here<'a>(
     alloc: Global,
     line: u32,
@@ -110,8 +110,8 @@ fn identified(names: &[String], line: u32, mut words: WordReader) -> Result<u32,
     }
 }
 
-/// What `A :: B` says, from behind the colons.
-fn behind_colons(
+/// What `A :: B` says, from after the colons.
+fn after_colons(
     names: &[String],
     line: u32,
     first: Option<u32>,
@@ -119,9 +119,9 @@ fn behind_colons(
 ) -> Result<Statement, LoadFault>
     requires few { length names.now ≤ MAX_BASES }
     requires below { IfSome first (λ r. r < length names.now) }
-    ensures ok { IfOk result (λ statement. behind_colons (map string_bytes names.now) first words.entry ≡ Some statement) }
+    ensures ok { IfOk result (λ statement. after_colons (map string_bytes names.now) first words.entry ≡ Some statement) }
     ensures bounded { IfOk result (IsBoundedBy (length names.now)) }
-    ensures fault { IfErr result (IsFaultIn (formed line (behind_colons (map string_bytes names.now) first words.entry))) }
+    ensures fault { IfErr result (IsFaultIn (formed line (after_colons (map string_bytes names.now) first words.entry))) }
     ensures form { IfErr result (λ fault. fault ≡ LoadFault.Syntax line) }
 {
     let Some(second) = words.name() else {
@@ -133,8 +133,8 @@ fn behind_colons(
     Ok(Statement::Converse(first, place_of(names, second)))
 }
 
-/// What `A : B :: ( C D .. )` says, from behind the colon.
-fn behind_colon(
+/// What `A : B :: ( C D .. )` says, from after the colon.
+fn after_colon(
     alloc: Global,
     names: &[String],
     line: u32,
@@ -143,9 +143,9 @@ fn behind_colon(
 ) -> Result<Statement, LoadFault>
     requires few { length names.now ≤ MAX_BASES }
     requires below { IfSome first (λ r. r < length names.now) }
-    ensures ok { IfOk result (λ statement. behind_colon (map string_bytes names.now) first words.entry ≡ Some statement) }
+    ensures ok { IfOk result (λ statement. after_colon (map string_bytes names.now) first words.entry ≡ Some statement) }
     ensures bounded { IfOk result (IsBoundedBy (length names.now)) }
-    ensures fault { IfErr result (IsFaultIn (formed line (behind_colon (map string_bytes names.now) first words.entry))) }
+    ensures fault { IfErr result (IsFaultIn (formed line (after_colon (map string_bytes names.now) first words.entry))) }
 {
     let Some(second) = words.name() else {
         return Err(LoadFault::Syntax { line });
@@ -177,10 +177,10 @@ fn statement(
     };
     let first = place_of(names, first);
     if words.take_kind(TokenKind::Colons) {
-        return behind_colons(names, line, first, words);
+        return after_colons(names, line, first, words);
     }
     if words.take_kind(TokenKind::Colon) {
-        return behind_colon(alloc, names, line, first, words);
+        return after_colon(alloc, names, line, first, words);
     }
     Err(LoadFault::Syntax { line })
 }
@@ -203,11 +203,11 @@ fn take_line(alloc: Global, draft: &mut Draft, line: TextLine) -> Result<bool, L
     Ok(false)
 }
 
-/// Behind the end line no line with tokens may stand.
-fn nothing_behind(lines: &mut TableLines, draft: &Draft) -> Result<(), LoadFault>
+/// After the end line no line with tokens may stand.
+fn nothing_after(lines: &mut TableLines, draft: &Draft) -> Result<(), LoadFault>
     ensures { MatchResult result
-        (λ _. nothing_behind lines.old draft.now ≡ Ok draft.now)
-        (λ fault. nothing_behind lines.old draft.now ≡ Err fault) }
+        (λ _. nothing_after lines.old draft.now ≡ Ok draft.now)
+        (λ fault. nothing_after lines.old draft.now ≡ Err fault) }
 {
     match lines.next()? {
         None => Ok(()),
@@ -227,13 +227,13 @@ fn statements(
 {
     while let Some(line) = lines.next()? {
         if take_line(alloc, draft, line)? {
-            return nothing_behind(lines, draft);
+            return nothing_after(lines, draft);
         }
     }
     Err(LoadFault::Syntax { line: end })
 }
 
-/// The identity line and what stands behind it.
+/// The identity line and what stands after it.
 fn from_identity(
     alloc: Global,
     lines: &mut TableLines,
@@ -296,7 +296,7 @@ fn read_lines(alloc: Global, bytes: &[u8]) -> Result<Draft, LoadFault>
 pub fn read(alloc: Global, bytes: &[u8]) -> Result<Calculus, LoadFault>
     requires { length bytes.now ≤ 16777216 }
     ensures ok { IfOk result (λ c. table_of bytes.now ≡ Ok c) }
-    ensures lawful { IfOk result NamesItsBases }
+    ensures lawful { IfOk result IsNamedCalculus }
     ensures fault { IfErr result (IsLoadFaultOf (table_of bytes.now)) }
 {
     let draft = read_lines(alloc, bytes)?;

@@ -9,7 +9,7 @@ use std::test::Fail;
 const RAMSEY: &str =
     "names ( id a b )|identity id|id :: id|a :: a|b :: b|id : id :: ( id )|id : a :: ( a )|id : b :: ( b )|a : id :: ( a )|a : a :: ( id b )|a : b :: ( a b )|b : id :: ( b )|b : a :: ( a b )|b : b :: ( id a )|.|";
 
-/// The table file of RCC-8 up to the composition of EC and NTPP, between it and that of NTPPi and EC, and behind it.
+/// The table file of RCC-8 up to the composition of EC and NTPP, between it and that of NTPPi and EC, and after it.
 const RCC8_FRONT: &str = "names ( DC EC PO TPP NTPP TPPi NTPPi EQ )
 identity EQ
 DC :: DC

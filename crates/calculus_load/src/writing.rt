@@ -2,7 +2,7 @@ ghost use Rattle.std.specs.Prelude.{◌≡◌, ◌<◌, ◌++◌, codes, OnOk, I
 ghost use Rattle.std.specs.String.{string_bytes};
 ghost use Rattle.qsr_lex.specs.Printed.{text_below};
 ghost use Rattle.calculus_load.specs.TableText.{names_text, identity_text, converse_text, entry_text, row_text, table_text};
-ghost use Rattle.calculus_table.specs.Meaning.{converse_at, entry_at};
+ghost use Rattle.calculus_table.specs.Algebra.{converse_at, entry_at};
 
 use calculus_table::{Calculus, Compose, Memory, Rel, lawful};
 use named_sets::push_set;
@@ -31,9 +31,9 @@ fn push_identity(text: &mut String, c: &Calculus) -> Result<(), AllocError>
 
 /// The converse of a base relation.
 fn converse_of(c: &Calculus, r: u32) -> u32
-    requires { r < c.now.meaning.size }
-    ensures value { result ≡ converse_at c.now.meaning r }
-    ensures below { result < c.now.meaning.size }
+    requires { r < c.now.algebra.size }
+    ensures value { result ≡ converse_at c.now.algebra r }
+    ensures below { result < c.now.algebra.size }
 {
     lawful(c);
     c.converse(Rel::single(r)).least()
@@ -41,9 +41,9 @@ fn converse_of(c: &Calculus, r: u32) -> u32
 
 /// The composition of two base relations.
 fn composition_of(c: &Calculus, r: u32, s: u32) -> Rel
-    requires first { r < c.now.meaning.size }
-    requires second { s < c.now.meaning.size }
-    ensures { result ≡ entry_at c.now.meaning r s }
+    requires first { r < c.now.algebra.size }
+    requires second { s < c.now.algebra.size }
+    ensures { result ≡ entry_at c.now.algebra r s }
 {
     lawful(c);
     c.compose(Rel::single(r), Rel::single(s))
@@ -51,7 +51,7 @@ fn composition_of(c: &Calculus, r: u32, s: u32) -> Rel
 
 /// Appends the line of the converse of `r`.
 fn push_converse(text: &mut String, c: &Calculus, r: u32) -> Result<(), AllocError>
-    requires { r < c.now.meaning.size }
+    requires { r < c.now.algebra.size }
     ensures { OnOk result (string_bytes text.new ≡ string_bytes text.old ++ converse_text c.now r) }
 {
     let converse = converse_of(c, r);
@@ -61,8 +61,8 @@ fn push_converse(text: &mut String, c: &Calculus, r: u32) -> Result<(), AllocErr
 
 /// Appends the line of the composition of `r` and `s`.
 fn push_entry(text: &mut String, c: &Calculus, r: u32, s: u32) -> Result<(), AllocError>
-    requires first { r < c.now.meaning.size }
-    requires second { s < c.now.meaning.size }
+    requires first { r < c.now.algebra.size }
+    requires second { s < c.now.algebra.size }
     ensures { OnOk result (string_bytes text.new ≡ string_bytes text.old ++ entry_text c.now r s) }
 {
     let set = composition_of(c, r, s);
@@ -74,7 +74,7 @@ fn push_entry(text: &mut String, c: &Calculus, r: u32, s: u32) -> Result<(), All
 
 /// Appends the lines of the compositions of `r`.
 fn push_row(text: &mut String, c: &Calculus, r: u32) -> Result<(), AllocError>
-    requires { r < c.now.meaning.size }
+    requires { r < c.now.algebra.size }
     ensures { OnOk result (string_bytes text.new ≡ string_bytes text.old ++ row_text c.now r) }
 {
     for s in 0..c.size() {
@@ -85,7 +85,7 @@ fn push_row(text: &mut String, c: &Calculus, r: u32) -> Result<(), AllocError>
 
 /// Appends the lines of the converses.
 fn push_converses(text: &mut String, c: &Calculus) -> Result<(), AllocError>
-    ensures { OnOk result (string_bytes text.new ≡ string_bytes text.old ++ text_below c.now.meaning.size (converse_text c.now)) }
+    ensures { OnOk result (string_bytes text.new ≡ string_bytes text.old ++ text_below c.now.algebra.size (converse_text c.now)) }
 {
     for r in 0..c.size() {
         push_converse(text, c, r)?;
@@ -95,7 +95,7 @@ fn push_converses(text: &mut String, c: &Calculus) -> Result<(), AllocError>
 
 /// Appends the lines of the compositions.
 fn push_entries(text: &mut String, c: &Calculus) -> Result<(), AllocError>
-    ensures { OnOk result (string_bytes text.new ≡ string_bytes text.old ++ text_below c.now.meaning.size (row_text c.now)) }
+    ensures { OnOk result (string_bytes text.new ≡ string_bytes text.old ++ text_below c.now.algebra.size (row_text c.now)) }
 {
     for r in 0..c.size() {
         push_row(text, c, r)?;

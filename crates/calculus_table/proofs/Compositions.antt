@@ -5,7 +5,7 @@ use Rattle.std.specs.Int.{bit_at}
 use Rattle.std.proofs.lemmas.Bool.{eqb-true, eq-eqb, cases_eq, cases_lt}
 use Rattle.std.proofs.lemmas.Nat.Bits.{bit_at-pow_other, bit_at_ones, bit_at_ones_above}
 use Rattle.calculus_table.specs.Rel.{Has, IsWithin}
-use Rattle.calculus_table.specs.Meaning.{Meaning, converse_at, entry_at}
+use Rattle.calculus_table.specs.Algebra.{Algebra, converse_at, entry_at}
 use Rattle.calculus_table.specs.Composition.{full_of, union_below, if_has, row_composition, composition, converse, InComposition, InConverse}
 use Rattle.calculus_table.specs.Calculus.{IsTable, IsCalculus}
 use Rattle.calculus_table.proofs.Sets.{Has-union, Has-union_l, Has-union_r, not_Has-empty, Has-single, IsWithin-refl, IsWithin-antisym}
@@ -15,10 +15,10 @@ use Rattle.calculus_table.proofs.Sets.{Has-union, Has-union_l, Has-union_r, not_
 pub single-member : (r t : ℕ) → Has (2 ^ r) t → t ≡ r
 single-member r t h = elim (cases_eq t r) [ inl e ↦ e | inr ne ↦ absurd (omega (arith, bit_at-pow_other r t ne)) ]
 
-pub Has-full : (m : Meaning) (t : ℕ) → t < m.size → Has (full_of m) t
+pub Has-full : (m : Algebra) (t : ℕ) → t < m.size → Has (full_of m) t
 Has-full m t h = bit_at_ones m.size t h
 
-pub full-member : (m : Meaning) (t : ℕ) → Has (full_of m) t → t < m.size
+pub full-member : (m : Algebra) (t : ℕ) → Has (full_of m) t → t < m.size
 full-member m t h = elim (cases_lt t m.size) [ inl l ↦ l | inr g ↦ absurd (omega (arith, bit_at_ones_above m.size t g)) ]
 
 -- ---- unions
@@ -60,7 +60,7 @@ Has-if_has a r x t p h = subst (λ b. Has (cond b x 0) t) (sym (eq-eqb (bit_at a
 
 -- ---- composition and converse by their members
 
-pub composition-member : (m : Meaning) (a b t : ℕ) → IsTable m → Has (composition m a b) t → InComposition m a b t
+pub composition-member : (m : Algebra) (a b t : ℕ) → IsTable m → Has (composition m a b) t → InComposition m a b t
 composition-member m a b t k h =
     let u : InUnion m.size (λ r. if_has a r (row_composition m r b)) t = union_below-member m.size (λ r. if_has a r (row_composition m r b)) t h in
     let p = if_has-member a u.at (row_composition m u.at b) t u.member in
@@ -79,38 +79,38 @@ composition-member m a b t k h =
       };
     }
 
-pub Has-composition : (m : Meaning) (a b t : ℕ) → InComposition m a b t → Has (composition m a b) t
+pub Has-composition : (m : Algebra) (a b t : ℕ) → InComposition m a b t → Has (composition m a b) t
 Has-composition m a b t i =
     Has-union_below m.size (λ r. if_has a r (row_composition m r b)) t i.first i.composes.first_below
     (Has-if_has a i.first (row_composition m i.first b) t i.first_in
     (Has-union_below m.size (λ s. if_has b s (entry_at m i.first s)) t i.second i.composes.second_below
     (Has-if_has b i.second (entry_at m i.first i.second) t i.second_in i.composes.member)))
 
-pub converse-member : (m : Meaning) (a t : ℕ) → Has (converse m a) t → InConverse m a t
+pub converse-member : (m : Algebra) (a t : ℕ) → Has (converse m a) t → InConverse m a t
 converse-member m a t h =
     let u : InUnion m.size (λ r. if_has a r (2 ^ converse_at m r)) t = union_below-member m.size (λ r. if_has a r (2 ^ converse_at m r)) t h in
     let p = if_has-member a u.at (2 ^ converse_at m u.at) t u.member in
     record { base = u.at; below = u.below; base_in = p.0; is_converse = sym (single-member (converse_at m u.at) t p.1) }
 
-pub Has-converse : (m : Meaning) (a t : ℕ) → InConverse m a t → Has (converse m a) t
+pub Has-converse : (m : Algebra) (a t : ℕ) → InConverse m a t → Has (converse m a) t
 Has-converse m a t i =
     Has-union_below m.size (λ r. if_has a r (2 ^ converse_at m r)) t i.base i.below
     (Has-if_has a i.base (2 ^ converse_at m i.base) t i.base_in
     (subst (λ u. Has (2 ^ converse_at m i.base) u) i.is_converse (Has-single (converse_at m i.base))))
 
 -- the members of a composition, and what has them
-pub composition-members : (m : Meaning) (a b t : ℕ) → IsTable m → Has (composition m a b) t ↔ InComposition m a b t
+pub composition-members : (m : Algebra) (a b t : ℕ) → IsTable m → Has (composition m a b) t ↔ InComposition m a b t
 composition-members m a b t k = (composition-member m a b t k, Has-composition m a b t)
 
-pub converse-members : (m : Meaning) (a t : ℕ) → Has (converse m a) t ↔ InConverse m a t
+pub converse-members : (m : Algebra) (a t : ℕ) → Has (converse m a) t ↔ InConverse m a t
 converse-members m a t = (converse-member m a t, Has-converse m a t)
 
-pub composition-within : (m : Meaning) (a b : ℕ) → IsTable m → IsWithin (composition m a b) (full_of m)
+pub composition-within : (m : Algebra) (a b : ℕ) → IsTable m → IsWithin (composition m a b) (full_of m)
 composition-within m a b k = record {
   each = λ t h. Has-full m t (composition-member m a b t k h).composes.below;
 }
 
-pub converse-within : (m : Meaning) (a : ℕ) → IsTable m → IsWithin (converse m a) (full_of m)
+pub converse-within : (m : Algebra) (a : ℕ) → IsTable m → IsWithin (converse m a) (full_of m)
 converse-within m a k = record {
   each = λ t h. let i : InConverse m a t = converse-member m a t h in
       Has-full m t (subst (λ u. u < m.size) i.is_converse (k.converse_below i.base i.below));
@@ -119,21 +119,21 @@ converse-within m a k = record {
 -- ---- the laws of sets
 
 -- composition is monotone
-pub composition-mono : (m : Meaning) (a b c d : ℕ) → IsTable m → IsWithin a c → IsWithin b d → IsWithin (composition m a b) (composition m c d)
+pub composition-mono : (m : Algebra) (a b c d : ℕ) → IsTable m → IsWithin a c → IsWithin b d → IsWithin (composition m a b) (composition m c d)
 composition-mono m a b c d k p q = record {
   each = λ t h. let i : InComposition m a b t = composition-member m a b t k h in
       Has-composition m c d t (record { first = i.first; second = i.second; first_in = p.each i.first i.first_in; second_in = q.each i.second i.second_in; composes = i.composes });
 }
 
 -- converse is monotone
-pub converse-mono : (m : Meaning) (a b : ℕ) → IsWithin a b → IsWithin (converse m a) (converse m b)
+pub converse-mono : (m : Algebra) (a b : ℕ) → IsWithin a b → IsWithin (converse m a) (converse m b)
 converse-mono m a b p = record {
   each = λ t h. let i : InConverse m a t = converse-member m a t h in
       Has-converse m b t (record { base = i.base; below = i.below; base_in = p.each i.base i.base_in; is_converse = i.is_converse });
 }
 
 -- composition distributes over a union on the left
-pub composition-union_l : (m : Meaning) (a b c : ℕ) → IsTable m → composition m (bit_or a b) c ≡ bit_or (composition m a c) (composition m b c)
+pub composition-union_l : (m : Algebra) (a b c : ℕ) → IsTable m → composition m (bit_or a b) c ≡ bit_or (composition m a c) (composition m b c)
 composition-union_l m a b c k = IsWithin-antisym _ _
     (record {
       each = λ t h. let i : InComposition m (bit_or a b) c t = composition-member m (bit_or a b) c t k h in
@@ -150,7 +150,7 @@ composition-union_l m a b c k = IsWithin-antisym _ _
     })
 
 -- composition distributes over a union on the right
-pub composition-union_r : (m : Meaning) (a b c : ℕ) → IsTable m → composition m a (bit_or b c) ≡ bit_or (composition m a b) (composition m a c)
+pub composition-union_r : (m : Algebra) (a b c : ℕ) → IsTable m → composition m a (bit_or b c) ≡ bit_or (composition m a b) (composition m a c)
 composition-union_r m a b c k = IsWithin-antisym _ _
     (record {
       each = λ t h. let i : InComposition m a (bit_or b c) t = composition-member m a (bit_or b c) t k h in
@@ -167,7 +167,7 @@ composition-union_r m a b c k = IsWithin-antisym _ _
     })
 
 -- converse distributes over a union
-pub converse-union : (m : Meaning) (a b : ℕ) → converse m (bit_or a b) ≡ bit_or (converse m a) (converse m b)
+pub converse-union : (m : Algebra) (a b : ℕ) → converse m (bit_or a b) ≡ bit_or (converse m a) (converse m b)
 converse-union m a b = IsWithin-antisym _ _
     (record {
       each = λ t h. let i : InConverse m (bit_or a b) t = converse-member m (bit_or a b) t h in
@@ -184,7 +184,7 @@ converse-union m a b = IsWithin-antisym _ _
     })
 
 -- the converse of the converse of a set of base relations is the set
-pub converse-converse : (m : Meaning) (a : ℕ) → IsCalculus m → IsWithin a (full_of m) → converse m (converse m a) ≡ a
+pub converse-converse : (m : Algebra) (a : ℕ) → IsCalculus m → IsWithin a (full_of m) → converse m (converse m a) ≡ a
 converse-converse m a k w = IsWithin-antisym _ _
     (record {
       each = λ t h. let i : InConverse m (converse m a) t = converse-member m (converse m a) t h in
@@ -203,11 +203,11 @@ converse-converse m a k w = IsWithin-antisym _ _
     })
 
 -- the members of a converse of base relations below the size
-pub Has-converse_at : (m : Meaning) (a r : ℕ) → r < m.size → Has a r → Has (converse m a) (converse_at m r)
+pub Has-converse_at : (m : Algebra) (a r : ℕ) → r < m.size → Has a r → Has (converse m a) (converse_at m r)
 Has-converse_at m a r l h = Has-converse m a (converse_at m r) (record { base = r; below = l; base_in = h; is_converse = refl })
 
 -- the converse of A;B is (the converse of B);(the converse of A)
-pub converse-composition : (m : Meaning) (a b : ℕ) → IsCalculus m → converse m (composition m a b) ≡ composition m (converse m b) (converse m a)
+pub converse-composition : (m : Algebra) (a b : ℕ) → IsCalculus m → converse m (composition m a b) ≡ composition m (converse m b) (converse m a)
 converse-composition m a b k = IsWithin-antisym _ _
     (record {
       each = λ t h. let i : InConverse m (composition m a b) t = converse-member m (composition m a b) t h in
@@ -260,7 +260,7 @@ converse-composition m a b k = IsWithin-antisym _ _
 
 -- ---- the identity
 
-pub composition-identity_l : (m : Meaning) (a : ℕ) → IsCalculus m → IsWithin a (full_of m) → composition m (2 ^ m.identity) a ≡ a
+pub composition-identity_l : (m : Algebra) (a : ℕ) → IsCalculus m → IsWithin a (full_of m) → composition m (2 ^ m.identity) a ≡ a
 composition-identity_l m a k w = IsWithin-antisym _ _
     (record {
       each = λ t h. let i : InComposition m (2 ^ m.identity) a t = composition-member m (2 ^ m.identity) a t k.table h in
@@ -284,7 +284,7 @@ composition-identity_l m a k w = IsWithin-antisym _ _
           });
     })
 
-pub composition-identity_r : (m : Meaning) (a : ℕ) → IsCalculus m → IsWithin a (full_of m) → composition m a (2 ^ m.identity) ≡ a
+pub composition-identity_r : (m : Algebra) (a : ℕ) → IsCalculus m → IsWithin a (full_of m) → composition m a (2 ^ m.identity) ≡ a
 composition-identity_r m a k w = IsWithin-antisym _ _
     (record {
       each = λ t h. let i : InComposition m a (2 ^ m.identity) t = composition-member m a (2 ^ m.identity) t k.table h in

@@ -7,7 +7,7 @@ use Rattle.std.proofs.lemmas.Slice.Eq.{bytes_eq-Decides}
 use Rattle.std.proofs.lemmas.Option.{slice_get-get_or}
 use Rattle.std.proofs.lemmas.Nat.Bits.{bit_at_above}
 use Rattle.calculus_table.specs.Rel.{Has, IsWithin}
-use Rattle.calculus_table.specs.Meaning.{Meaning, converse_at, entry_at}
+use Rattle.calculus_table.specs.Algebra.{Algebra, converse_at, entry_at}
 use Rattle.calculus_table.specs.Composition.{full_of}
 use Rattle.calculus_table.specs.Calculus.{IsTable, IsCalculus, InvolutionAt, IdentityAt, AreDistinct}
 use Rattle.calculus_table.specs.Checked.{each_below, is_entry_within, is_row_within, is_converse_below, has_shape, obeys_involution, obeys_identity, obeys_converse, obeys_cycle, each_third, each_pair, each_triple, is_other_name, is_new_name, are_distinct}
@@ -24,13 +24,13 @@ each_below-at (suc n) test k e h =
       | inr g ↦ (let same : k ≡ n = omega arith in ap test same ∙ p.0)
     ]
 
-pub each_triple-at : (m : Meaning) (test : ℕ → ℕ → ℕ → Bool) → each_triple m test ≡ true → (r s t : ℕ) → r < m.size → s < m.size → t < m.size → test r s t ≡ true
+pub each_triple-at : (m : Algebra) (test : ℕ → ℕ → ℕ → Bool) → each_triple m test ≡ true → (r s t : ℕ) → r < m.size → s < m.size → t < m.size → test r s t ≡ true
 each_triple-at m test e r s t hr hs ht =
     each_below-at m.size (test r s) t (each_below-at m.size (each_third m test r) s (each_below-at m.size (each_pair m test) r e hr) hs) ht
 
 -- ---- the shape
 
-entry-within : (m : Meaning) (r s : ℕ) → is_entry_within m r s ≡ true → IsWithin (entry_at m r s) (full_of m)
+entry-within : (m : Algebra) (r s : ℕ) → is_entry_within m r s ≡ true → IsWithin (entry_at m r s) (full_of m)
 entry-within m r s e = record {
   each = λ t h. elim (cases_lt t m.size) [
     | inl l ↦ Has-full m t l
@@ -39,7 +39,7 @@ entry-within m r s e = record {
 }
 
 -- a table that passes the test has the right shape
-pub IsTable-from_test : (m : Meaning) → has_shape m ≡ true → IsTable m
+pub IsTable-from_test : (m : Algebra) → has_shape m ≡ true → IsTable m
 IsTable-from_test m e =
     let p = and_parts _ (each_below m.size (is_row_within m)) e in
     let q = and_parts _ (each_below m.size (is_converse_below m)) p.0 in
@@ -59,7 +59,7 @@ IsTable-from_test m e =
 
 -- ---- the laws
 
-involution-at : (m : Meaning) (r : ℕ) → obeys_involution m r ≡ true → InvolutionAt m r
+involution-at : (m : Algebra) (r : ℕ) → obeys_involution m r ≡ true → InvolutionAt m r
 involution-at m r e =
     let p = and_parts _ _ e in
     record {
@@ -70,14 +70,14 @@ involution-at m r e =
       ];
     }
 
-identity-at : (m : Meaning) (r : ℕ) → obeys_identity m r ≡ true → IdentityAt m r
+identity-at : (m : Algebra) (r : ℕ) → obeys_identity m r ≡ true → IdentityAt m r
 identity-at m r e = let p = and_parts _ _ e in record { left = eqb-true _ _ p.0; right = eqb-true _ _ p.1 }
 
 same_member : (a b t u : ℕ) → eqb (bit_at a t) (bit_at b u) ≡ true → Has a t ↔ Has b u
 same_member a b t u e = let p : bit_at a t ≡ bit_at b u = eqb-true _ _ e in (λ h. sym p ∙ h, λ h. p ∙ h)
 
 -- a table that passes the tests is a calculus
-pub IsCalculus-from_tests : (m : Meaning) → has_shape m ≡ true → each_below m.size (obeys_involution m) ≡ true → each_below m.size (obeys_identity m) ≡ true → each_triple m (obeys_converse m) ≡ true → each_triple m (obeys_cycle m) ≡ true → IsCalculus m
+pub IsCalculus-from_tests : (m : Algebra) → has_shape m ≡ true → each_below m.size (obeys_involution m) ≡ true → each_below m.size (obeys_identity m) ≡ true → each_triple m (obeys_converse m) ≡ true → each_triple m (obeys_cycle m) ≡ true → IsCalculus m
 IsCalculus-from_tests m shape involution identity converse cycle = record {
   table = IsTable-from_test m shape;
   involution = λ r h. involution-at m r (each_below-at m.size (obeys_involution m) r involution h);

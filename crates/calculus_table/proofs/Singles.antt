@@ -1,7 +1,7 @@
 -- Sets of one base relation: what they are within, their converses and their compositions.
 use Rattle.std.proofs.Common.{◌≡◌, ℕ, ◌^◌, ◌<◌, sym, ap, ◌∙◌, subst}
 use Rattle.calculus_table.specs.Rel.{Has, IsWithin}
-use Rattle.calculus_table.specs.Meaning.{Meaning, converse_at, entry_at}
+use Rattle.calculus_table.specs.Algebra.{Algebra, converse_at, entry_at}
 use Rattle.calculus_table.specs.Composition.{composition, converse, InConverse}
 use Rattle.calculus_table.specs.Calculus.{IsTable}
 use Rattle.calculus_table.proofs.Sets.{Has-single, IsWithin-antisym}
@@ -14,7 +14,7 @@ pub within-single : (r a : ℕ) → IsWithin (2 ^ r) a → Has a r
 within-single r a w = w.each r (Has-single r)
 
 -- the converse of a single set is that of its member
-pub converse-single : (m : Meaning) (r : ℕ) → r < m.size → converse m (2 ^ r) ≡ 2 ^ converse_at m r
+pub converse-single : (m : Algebra) (r : ℕ) → r < m.size → converse m (2 ^ r) ≡ 2 ^ converse_at m r
 converse-single m r l = IsWithin-antisym _ _
     (record {
       each = λ t h. let i : InConverse m (2 ^ r) t = converse-member m (2 ^ r) t h in
@@ -24,7 +24,7 @@ converse-single m r l = IsWithin-antisym _ _
     (single-within (converse_at m r) (converse m (2 ^ r)) (Has-converse_at m (2 ^ r) r l (Has-single r)))
 
 -- the composition of single sets is that of their members
-pub composition-single : (m : Meaning) (r s : ℕ) → IsTable m → r < m.size → s < m.size → composition m (2 ^ r) (2 ^ s) ≡ entry_at m r s
+pub composition-single : (m : Algebra) (r s : ℕ) → IsTable m → r < m.size → s < m.size → composition m (2 ^ r) (2 ^ s) ≡ entry_at m r s
 composition-single m r s table below below2 =
     IsWithin-antisym (composition m (2 ^ r) (2 ^ s)) (entry_at m r s)
     (record {

@@ -3,7 +3,7 @@ use Rattle.std.proofs.Common.{◌≡◌, ℕ, ◌<◌, subst, sym, ◌⊎◌, in
 use Rattle.std.specs.Prelude.{bit_and, bit_or}
 use Rattle.std.proofs.lemmas.Bool.{cases_eq}
 use Rattle.calculus_table.specs.Rel.{Has, IsWithin, IsWithout}
-use Rattle.calculus_table.specs.Meaning.{Meaning}
+use Rattle.calculus_table.specs.Algebra.{Algebra}
 use Rattle.calculus_table.specs.Composition.{full_of, union_below, if_has}
 use Rattle.calculus_table.proofs.Sets.{Has-meet, Has-meet_r, not_Has-empty, IsWithin-trans, IsWithin-antisym, IsWithin-empty, IsWithin-meet_l, IsWithin-union, IsWithin-union_l, IsWithin-union_r}
 use Rattle.calculus_table.proofs.Compositions.{InUnion, union_below-member, Has-union_below, if_has-member, Has-if_has, Has-full, full-member}
@@ -25,7 +25,7 @@ union_over-has n f a r l h = record {
 }
 
 -- at first each base relation is left
-pub IsUnionBut-start : (m : Meaning) (f : ℕ → ℕ) (a : ℕ) → IsUnionBut m.size f a (bit_and a (full_of m)) 0
+pub IsUnionBut-start : (m : Algebra) (f : ℕ → ℕ) (a : ℕ) → IsUnionBut m.size f a (bit_and a (full_of m)) 0
 IsUnionBut-start m f a = record {
   within = IsWithin-meet_l a (full_of m);
   below = λ r h. full-member m r (Has-meet_r a (full_of m) r h);

@@ -1,17 +1,17 @@
 -- A calculus: base relations with an identity, converses and compositions that obey four laws.
 use Rattle.std.specs.Prelude.{◌≡◌, ◌≢◌, ℕ, ◌*◌, ◌^◌, ◌<◌, ◌≤◌, ◌↔◌, List, length, slice_get}
 use Rattle.calculus_table.specs.Rel.{Has, IsWithin}
-use Rattle.calculus_table.specs.Meaning.{Meaning, converse_at, entry_at}
+use Rattle.calculus_table.specs.Algebra.{Algebra, converse_at, entry_at}
 use Rattle.calculus_table.specs.Composition.{full_of}
 use Rattle.calculus_table.specs.declared.TheConstants.{MAX_BASES}
 
 -- what contracts see of a calculus: the names of its base relations, and what it means
-pub record Named : Type 0 where
+pub record NamedAlgebra : Type 0 where
   pub names : List (List ℕ)
-  pub meaning : Meaning
+  pub algebra : Algebra
 
 -- a table of the right shape: every list has its length and every member its bound
-pub record IsTable (m : Meaning) : Type 0 where
+pub record IsTable (m : Algebra) : Type 0 where
   pub some : 0 < m.size
   pub bounded : m.size ≤ MAX_BASES
   pub identity_below : m.identity < m.size
@@ -21,32 +21,32 @@ pub record IsTable (m : Meaning) : Type 0 where
   pub entry_within : (r s : ℕ) → r < m.size → s < m.size → IsWithin (entry_at m r s) (full_of m)
 
 -- the converse of the converse of r is r, and the identity is its own converse
-pub record InvolutionAt (m : Meaning) (r : ℕ) : Type 0 where
+pub record InvolutionAt (m : Algebra) (r : ℕ) : Type 0 where
   pub twice : converse_at m (converse_at m r) ≡ r
   pub identity : r ≡ m.identity → converse_at m r ≡ r
 
 -- the identity composed with r, on either side, is r alone
-pub record IdentityAt (m : Meaning) (r : ℕ) : Type 0 where
+pub record IdentityAt (m : Algebra) (r : ℕ) : Type 0 where
   pub left : entry_at m m.identity r ≡ 2 ^ r
   pub right : entry_at m r m.identity ≡ 2 ^ r
 
 -- t is in r;s exactly where its converse is in the composition of the converses, turned round
-abbrev pub ConverseAt : Meaning → ℕ → ℕ → ℕ → Type 0
+abbrev pub ConverseAt : Algebra → ℕ → ℕ → ℕ → Type 0
 ConverseAt m r s t = Has (entry_at m r s) t ↔ Has (entry_at m (converse_at m s) (converse_at m r)) (converse_at m t)
 
 -- t is in r;s exactly where r is in t;(the converse of s)
-abbrev pub CycleAt : Meaning → ℕ → ℕ → ℕ → Type 0
+abbrev pub CycleAt : Algebra → ℕ → ℕ → ℕ → Type 0
 CycleAt m r s t = Has (entry_at m r s) t ↔ Has (entry_at m t (converse_at m s)) r
 
 -- a fact of each base relation, and of each triple of them
-abbrev pub EachBase : Meaning → (ℕ → Type 0) → Type 0
+abbrev pub EachBase : Algebra → (ℕ → Type 0) → Type 0
 EachBase m P = (r : ℕ) → r < m.size → P r
 
-abbrev pub EachTriple : Meaning → (ℕ → ℕ → ℕ → Type 0) → Type 0
+abbrev pub EachTriple : Algebra → (ℕ → ℕ → ℕ → Type 0) → Type 0
 EachTriple m P = (r s t : ℕ) → r < m.size → s < m.size → t < m.size → P r s t
 
 -- a table with the four laws
-pub record IsCalculus (m : Meaning) : Type 0 where
+pub record IsCalculus (m : Algebra) : Type 0 where
   pub table : IsTable m
   pub involution : EachBase m (InvolutionAt m)
   pub identity : EachBase m (IdentityAt m)
@@ -70,13 +70,13 @@ pub record IsFirstRepeat (names : List (List ℕ)) (k : ℕ) : Type 0 where
   pub before : (i j : ℕ) → i < j → j < k → slice_get names i ≢ slice_get names j
 
 -- r is the first base relation without the property
-pub record IsFirstBase (m : Meaning) (P : ℕ → Type 0) (r : ℕ) : Type 0 where
+pub record IsFirstBase (m : Algebra) (P : ℕ → Type 0) (r : ℕ) : Type 0 where
   pub below : r < m.size
   pub here : ¬ P r
   pub before : (q : ℕ) → q < r → P q
 
 -- (r, s, t) is the first triple, in lexicographic order, without the property
-pub record IsFirstTriple (m : Meaning) (P : ℕ → ℕ → ℕ → Type 0) (r s t : ℕ) : Type 0 where
+pub record IsFirstTriple (m : Algebra) (P : ℕ → ℕ → ℕ → Type 0) (r s t : ℕ) : Type 0 where
   pub first_below : r < m.size
   pub second_below : s < m.size
   pub below : t < m.size
@@ -86,7 +86,7 @@ pub record IsFirstTriple (m : Meaning) (P : ℕ → ℕ → ℕ → Type 0) (r s
   pub first_before : (o p q : ℕ) → o < r → p < m.size → q < m.size → P o p q
 
 -- a calculus with one name for each base relation, no name twice
-pub record NamesItsBases (c : Named) : Type 0 where
-  pub lawful : IsCalculus c.meaning
+pub record IsNamedCalculus (c : NamedAlgebra) : Type 0 where
+  pub lawful : IsCalculus c.algebra
   pub distinct : AreDistinct c.names
-  pub one_each : length c.names ≡ c.meaning.size
+  pub one_each : length c.names ≡ c.algebra.size

@@ -1,40 +1,40 @@
 -- What follows from the four laws for sets of base relations, once and for every calculus.
 use Rattle.std.specs.Prelude.{◌≡◌, ℕ, ◌^◌, bit_or}
 use Rattle.calculus_table.specs.Rel.{IsWithin}
-use Rattle.calculus_table.specs.Meaning.{Meaning}
+use Rattle.calculus_table.specs.Algebra.{Algebra}
 use Rattle.calculus_table.specs.Composition.{full_of, composition, converse}
 use Rattle.calculus_table.specs.Calculus.{IsTable, IsCalculus}
 
 -- composition and converse are monotone
 abbrev pub CompositionIsMonotone : Type 0
 CompositionIsMonotone =
-    (m : Meaning) (a b c d : ℕ) → IsTable m → IsWithin a c → IsWithin b d → IsWithin (composition m a b) (composition m c d)
+    (m : Algebra) (a b c d : ℕ) → IsTable m → IsWithin a c → IsWithin b d → IsWithin (composition m a b) (composition m c d)
 
 abbrev pub ConverseIsMonotone : Type 0
-ConverseIsMonotone = (m : Meaning) (a b : ℕ) → IsWithin a b → IsWithin (converse m a) (converse m b)
+ConverseIsMonotone = (m : Algebra) (a b : ℕ) → IsWithin a b → IsWithin (converse m a) (converse m b)
 
 -- composition, on either side, and converse distribute over unions
 abbrev pub CompositionDistributesLeft : Type 0
 CompositionDistributesLeft =
-    (m : Meaning) (a b c : ℕ) → IsTable m → composition m (bit_or a b) c ≡ bit_or (composition m a c) (composition m b c)
+    (m : Algebra) (a b c : ℕ) → IsTable m → composition m (bit_or a b) c ≡ bit_or (composition m a c) (composition m b c)
 
 abbrev pub CompositionDistributesRight : Type 0
 CompositionDistributesRight =
-    (m : Meaning) (a b c : ℕ) → IsTable m → composition m a (bit_or b c) ≡ bit_or (composition m a b) (composition m a c)
+    (m : Algebra) (a b c : ℕ) → IsTable m → composition m a (bit_or b c) ≡ bit_or (composition m a b) (composition m a c)
 
 abbrev pub ConverseDistributes : Type 0
-ConverseDistributes = (m : Meaning) (a b : ℕ) → converse m (bit_or a b) ≡ bit_or (converse m a) (converse m b)
+ConverseDistributes = (m : Algebra) (a b : ℕ) → converse m (bit_or a b) ≡ bit_or (converse m a) (converse m b)
 
 -- the converse of A;B is the converse of B composed with the converse of A
 abbrev pub ConverseTurnsComposition : Type 0
 ConverseTurnsComposition =
-    (m : Meaning) (a b : ℕ) → IsCalculus m → converse m (composition m a b) ≡ composition m (converse m b) (converse m a)
+    (m : Algebra) (a b : ℕ) → IsCalculus m → converse m (composition m a b) ≡ composition m (converse m b) (converse m a)
 
 -- the converse of the converse of A is A
 abbrev pub ConverseIsInvolution : Type 0
-ConverseIsInvolution = (m : Meaning) (a : ℕ) → IsCalculus m → IsWithin a (full_of m) → converse m (converse m a) ≡ a
+ConverseIsInvolution = (m : Algebra) (a : ℕ) → IsCalculus m → IsWithin a (full_of m) → converse m (converse m a) ≡ a
 
 -- the identity composed with A, on either side, is A
 abbrev pub IdentityIsNeutral : Type 0
-IdentityIsNeutral = (m : Meaning) (a : ℕ) → IsCalculus m → IsWithin a (full_of m) →
+IdentityIsNeutral = (m : Algebra) (a : ℕ) → IsCalculus m → IsWithin a (full_of m) →
     (composition m (2 ^ m.identity) a ≡ a) × (composition m a (2 ^ m.identity) ≡ a)

@@ -1,5 +1,5 @@
 pub mod Rel
-pub mod Meaning
+pub mod Algebra
 pub mod Composition
 pub mod Names
 pub mod Calculus

@@ -33,21 +33,21 @@ pub struct Calculus {
 impl Model for Calculus {
     ghost use Rattle.std.specs.Prelude.{◌≡◌, length, map};
     ghost use Rattle.std.specs.String.{string_bytes};
-    ghost use Rattle.calculus_table.specs.Calculus.{Named, IsCalculus, AreDistinct, NamesItsBases};
+    ghost use Rattle.calculus_table.specs.Calculus.{NamedAlgebra, IsCalculus, AreDistinct, IsNamedCalculus};
 
-    ghost Value = { Named };
+    ghost Value = { NamedAlgebra };
 
-    ghost view = { λ a. record { names = map string_bytes a.names.items; meaning = a.table } };
+    ghost view = { λ a. record { names = map string_bytes a.names.items; algebra = a.table } };
 
-    ghost invariant = { λ a. NamesItsBases (record { names = map string_bytes a.names.items; meaning = a.table }) };
+    ghost invariant = { λ a. IsNamedCalculus (record { names = map string_bytes a.names.items; algebra = a.table }) };
 }
 
 impl Calculus {
     ghost use Rattle.std.specs.Prelude.{◌≡◌, ◌≢◌, ℕ, ◌+◌, ◌*◌, ◌-◌, ◌^◌, ◌<◌, ◌≤◌, map, length, slice_index, slice_get, IfOk, IfErr, MatchOption, Some};
     ghost use Rattle.std.specs.String.{string_bytes};
     ghost use Rattle.calculus_table.specs.Rel.{IsWithin};
-    ghost use Rattle.calculus_table.specs.Meaning.{Meaning};
-    ghost use Rattle.calculus_table.specs.Calculus.{Named, IsTable, IsCalculus, AreDistinct, NamesItsBases};
+    ghost use Rattle.calculus_table.specs.Algebra.{Algebra};
+    ghost use Rattle.calculus_table.specs.Calculus.{NamedAlgebra, IsTable, IsCalculus, AreDistinct, IsNamedCalculus};
     ghost use Rattle.calculus_table.specs.TableFault.{IsFaultOf};
 
     /// A calculus of `names`, with the identity `id`, the converse of each base relation and the composition of `r` and `s` at
@@ -62,9 +62,9 @@ impl Calculus {
         requires { IsTable (record { size = length names.items; identity = id; converses = conv.now; table = table.now }) }
         ensures ok { IfOk result (λ c. c ≡ record {
           names = map string_bytes names.items;
-          meaning = record { size = length names.items; identity = id; converses = conv.now; table = table.now };
+          algebra = record { size = length names.items; identity = id; converses = conv.now; table = table.now };
         }) }
-        ensures lawful { IfOk result NamesItsBases }
+        ensures lawful { IfOk result IsNamedCalculus }
         ensures fault { IfErr result (IsFaultOf (map string_bytes names.items)
             (record { size = length names.items; identity = id; converses = conv.now; table = table.now })) }
     {
@@ -80,7 +80,7 @@ impl Calculus {
 
     /// The name of the base relation `r`.
     pub fn name(&self, r: u32) -> &str
-        requires { r < self.now.meaning.size }
+        requires { r < self.now.algebra.size }
         ensures { slice_get self.now.names r ≡ Some result.now }
     {
         self.names[r as usize].as_str()
@@ -89,7 +89,7 @@ impl Calculus {
     /// The names of the base relations, in their order.
     pub fn names(&self) -> &[String]
         ensures value { map string_bytes result.now ≡ self.now.names }
-        ensures lawful { NamesItsBases self.now }
+        ensures lawful { IsNamedCalculus self.now }
     {
         &self.names
     }
@@ -98,7 +98,7 @@ impl Calculus {
     pub fn find(&self, name: &[u8]) -> Option<u32>
         ensures { MatchOption result
             ((r : ℕ) → slice_get self.now.names r ≢ Some name.now)
-            (λ r. (r < self.now.meaning.size) × (slice_get self.now.names r ≡ Some name.now)) }
+            (λ r. (r < self.now.algebra.size) × (slice_get self.now.names r ≡ Some name.now)) }
     {
         place_of(&self.names, name)
     }
@@ -106,14 +106,14 @@ impl Calculus {
 
 impl Compose for Calculus {
     ghost use Rattle.std.specs.Prelude.{◌≡◌};
-    ghost use Rattle.calculus_table.specs.Calculus.{IsCalculus, NamesItsBases};
+    ghost use Rattle.calculus_table.specs.Calculus.{IsCalculus, IsNamedCalculus};
 
-    ghost meaning = { λ c. c.meaning };
+    ghost algebra = { λ c. c.algebra };
 
     fn size(&self) -> u32
-        ensures value { result ≡ self.now.meaning.size }
-        ensures calculus { IsCalculus self.now.meaning }
-        ensures names { NamesItsBases self.now }
+        ensures value { result ≡ self.now.algebra.size }
+        ensures calculus { IsCalculus self.now.algebra }
+        ensures names { IsNamedCalculus self.now }
     {
         self.table.size()
     }

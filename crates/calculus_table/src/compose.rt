@@ -6,45 +6,45 @@ use crate::rel::Rel;
 pub trait Compose {
     ghost use Rattle.std.specs.Prelude.{◌≡◌, ℕ, ◌↔◌};
     ghost use Rattle.calculus_table.specs.Rel.{Has, IsWithin};
-    ghost use Rattle.calculus_table.specs.Meaning.{Meaning};
+    ghost use Rattle.calculus_table.specs.Algebra.{Algebra};
     ghost use Rattle.calculus_table.specs.Composition.{full_of, composition, converse, InComposition, InConverse};
     ghost use Rattle.calculus_table.specs.Calculus.{IsCalculus};
 
     /// The size, the identity, the converses and the table.
-    ghost meaning: { Self → Meaning };
+    ghost algebra: { Self → Algebra };
 
     /// The number of base relations.
     fn size(&self) -> u32
-        ensures value { result ≡ (meaning self.now).size }
-        ensures calculus { IsCalculus (meaning self.now) };
+        ensures value { result ≡ (algebra self.now).size }
+        ensures calculus { IsCalculus (algebra self.now) };
 
     /// The identity relation.
     fn identity(&self) -> u32
-        ensures { result ≡ (meaning self.now).identity };
+        ensures { result ≡ (algebra self.now).identity };
 
     /// The set of all base relations.
     fn full(&self) -> Rel
-        ensures { result ≡ full_of (meaning self.now) };
+        ensures { result ≡ full_of (algebra self.now) };
 
     /// The set of the converses of the members.
     fn converse(&self, a: Rel) -> Rel
-        requires { IsWithin a (full_of (meaning self.now)) }
-        ensures value { result ≡ converse (meaning self.now) a }
-        ensures members { (t : ℕ) → Has result t ↔ InConverse (meaning self.now) a t }
-        ensures within { IsWithin result (full_of (meaning self.now)) };
+        requires { IsWithin a (full_of (algebra self.now)) }
+        ensures value { result ≡ converse (algebra self.now) a }
+        ensures members { (t : ℕ) → Has result t ↔ InConverse (algebra self.now) a t }
+        ensures within { IsWithin result (full_of (algebra self.now)) };
 
     /// The union of the compositions of the members of `a` with those of `b`.
     fn compose(&self, a: Rel, b: Rel) -> Rel
-        requires first { IsWithin a (full_of (meaning self.now)) }
-        requires second { IsWithin b (full_of (meaning self.now)) }
-        ensures value { result ≡ composition (meaning self.now) a b }
-        ensures members { (t : ℕ) → Has result t ↔ InComposition (meaning self.now) a b t }
-        ensures within { IsWithin result (full_of (meaning self.now)) };
+        requires first { IsWithin a (full_of (algebra self.now)) }
+        requires second { IsWithin b (full_of (algebra self.now)) }
+        ensures value { result ≡ composition (algebra self.now) a b }
+        ensures members { (t : ℕ) → Has result t ↔ InComposition (algebra self.now) a b t }
+        ensures within { IsWithin result (full_of (algebra self.now)) };
 }
 
 /// Does nothing. A proof learns by it that what `c` means is a calculus: its table keeps the four laws.
 pub fn lawful<C: Compose>(c: &C)
-    ensures { IsCalculus (C.meaning c.now) }
+    ensures { IsCalculus (C.algebra c.now) }
 {
     let _size = c.size();
 }

@@ -16,7 +16,7 @@ pub use names::place_of;
 pub use rel::Rel;
 
 /// The greatest number of base relations that a calculus may have.
-pub const MAX_BASES: u32 = 32;
+pub const MAX_BASES: u32 = 64;
 
 /// Want of memory.
 #[derive(Clone, Copy, Debug, PartialEq, Eq)]

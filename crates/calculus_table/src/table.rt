@@ -18,10 +18,10 @@ pub(crate) struct Table {
 }
 
 impl Model for Table {
-    ghost use Rattle.calculus_table.specs.Meaning.{Meaning};
+    ghost use Rattle.calculus_table.specs.Algebra.{Algebra};
     ghost use Rattle.calculus_table.specs.Calculus.{IsTable};
 
-    ghost Value = { Meaning };
+    ghost Value = { Algebra };
 
     ghost view = { λ a. record { size = a.size; identity = a.identity; converses = a.converses.items; table = a.entries.items } };
 
@@ -31,7 +31,7 @@ impl Model for Table {
 impl Table {
     ghost use Rattle.std.specs.Prelude.{◌≡◌, ℕ, ◌<◌, ◌↔◌, IsTrue, MatchOption};
     ghost use Rattle.calculus_table.specs.Rel.{IsWithin};
-    ghost use Rattle.calculus_table.specs.Meaning.{Meaning, converse_at, entry_at};
+    ghost use Rattle.calculus_table.specs.Algebra.{Algebra, converse_at, entry_at};
     ghost use Rattle.calculus_table.specs.Composition.{full_of, row_composition, composition, converse};
     ghost use Rattle.calculus_table.specs.Calculus.{IsTable, EachBase, EachTriple, InvolutionAt, IdentityAt, IsFirstBase, IsFirstTriple};
     ghost use Rattle.calculus_table.specs.TripleLaw.{EachPair, IsFirstPair};

@@ -80,7 +80,7 @@ fn three_relations(
     words: [u64; 9],
 ) -> Result<Calculus, TableFault>
     requires { IsTrue (has_shape (record { size = 3; identity = 0; converses = conv; table = words })) }
-    ensures { IfOk result (λ c. c.meaning ≡ record { size = 3; identity = 0; converses = conv; table = words }) }
+    ensures { IfOk result (λ c. c.algebra ≡ record { size = 3; identity = 0; converses = conv; table = words }) }
 {
     let names = three_names(alloc, names)?;
     let table = sets_of(alloc, &words)?;

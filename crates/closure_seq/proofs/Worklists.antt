@@ -4,9 +4,9 @@ use Rattle.std.specs.Prelude.{slice_index, slice_set}
 use Rattle.std.proofs.lemmas.Bool.{cases_lt, cases_eq, lt-ltb, le-ltb, false≢true}
 use Rattle.std.proofs.lemmas.List.{length-set, get_or-set_same, get_or-set_other, get_or-replicate, length-replicate, get_or_past}
 use Rattle.std.proofs.lemmas.Nat.{mul-add-lt, same_from_place}
-use Rattle.calculus_table.specs.Meaning.{Meaning}
+use Rattle.calculus_table.specs.Algebra.{Algebra}
 use Rattle.network_words.specs.Edge.{IsProperPair}
-use Rattle.network_words.specs.Network.{Network, set_at}
+use Rattle.network_words.specs.Network.{Network, relation_between}
 use Rattle.network_words.specs.declared.TheConstants.{MAX_NODES}
 use Rattle.closure_seq.specs.Worklist.{Worklist, IsSized, IsRoom, IsLoaded, edge_place}
 
@@ -78,23 +78,23 @@ pub place_below : (n i j : ℕ) → i < n → j < n → i * n + j < n * n
 place_below n i j h l = mul-add-lt i n j n h l
 
 -- the rows before i, and of row i the pairs before j
-pub record IsRowLoaded (m : Meaning) (net : Network) (work : Worklist) (i j : ℕ) : Type 0 where
+pub record IsRowLoaded (m : Algebra) (net : Network) (work : Worklist) (i j : ℕ) : Type 0 where
   pub nodes : work.nodes ≡ net.nodes
   pub before : IsLoaded m net work i
-  pub row : (q : ℕ) → q < j → IsProperPair net.nodes i q → slice_index work.sets (i * net.nodes + q) ≡ set_at m net.nodes net.words i q
+  pub row : (q : ℕ) → q < j → IsProperPair net.nodes i q → slice_index work.sets (i * net.nodes + q) ≡ relation_between m net.nodes net.words i q
 
-pub IsRowLoaded-skip : (m : Meaning) (net : Network) (work : Worklist) (i j : ℕ) → i ≡ j → IsRowLoaded m net work i j → IsRowLoaded m net work i (j + 1)
+pub IsRowLoaded-skip : (m : Algebra) (net : Network) (work : Worklist) (i j : ℕ) → i ≡ j → IsRowLoaded m net work i j → IsRowLoaded m net work i (j + 1)
 IsRowLoaded-skip m net work i j e p = record {
   nodes = p.nodes;
   before = p.before;
   row = λ q h pair. p.row q (let ne : i ≢ q = pair.differ in omega arith) pair;
 }
 
-pub IsRowLoaded-put : (m : Meaning) (net : Network) (work : Worklist) (i j : ℕ) → IsSized work → i < net.nodes → j < net.nodes → IsRowLoaded m net work i j →
-    IsRowLoaded m net (record work { sets = slice_set work.sets (i * work.nodes + j) (set_at m net.nodes net.words i j) }) i (j + 1)
+pub IsRowLoaded-put : (m : Algebra) (net : Network) (work : Worklist) (i j : ℕ) → IsSized work → i < net.nodes → j < net.nodes → IsRowLoaded m net work i j →
+    IsRowLoaded m net (record work { sets = slice_set work.sets (i * work.nodes + j) (relation_between m net.nodes net.words i j) }) i (j + 1)
 IsRowLoaded-put m net work i j z ib jb p =
     let n = net.nodes in
-    let new = set_at m n net.words i j in
+    let new = relation_between m n net.words i j in
     let at : work.nodes ≡ n = p.nodes in
     let l : i * n + j < length work.sets = omega (arith, z.sets_length, place_below n i j ib jb, ap (λ k. k * k) at) in
     let P = λ (sets : List ℕ). IsRowLoaded m net (record work { sets = sets }) i (j + 1) in
@@ -109,7 +109,7 @@ IsRowLoaded-put m net work i j z ib jb p =
       ];
     })
 
-pub IsLoaded-row : (m : Meaning) (net : Network) (work : Worklist) (i : ℕ) → IsRowLoaded m net work i net.nodes → IsLoaded m net work (i + 1)
+pub IsLoaded-row : (m : Algebra) (net : Network) (work : Worklist) (i : ℕ) → IsRowLoaded m net work i net.nodes → IsLoaded m net work (i + 1)
 IsLoaded-row m net work i p = λ a b h pair. elim (cases_eq a i) [
   | inl same ↦ rw same (p.row b pair.second_below (rw same at pair))
   | inr ne ↦ p.before a b (omega arith) pair

@@ -1,8 +1,8 @@
 -- The room for closing by a worklist: the sets of all ordered pairs, and the edges that wait.
 use Rattle.std.specs.Prelude.{◌≡◌, ℕ, ◌+◌, ◌*◌, ◌<◌, ◌≤◌, ◌⊎◌, Bool, true, false, List, length, slice_index, slice_index_or, nat_lt, if◌then◌else◌, sum, count_by}
-use Rattle.calculus_table.specs.Meaning.{Meaning}
+use Rattle.calculus_table.specs.Algebra.{Algebra}
 use Rattle.network_words.specs.Edge.{edge_count, IsProperPair, IsProperTriple}
-use Rattle.network_words.specs.Network.{Network, set_at}
+use Rattle.network_words.specs.Network.{Network, relation_between}
 use Rattle.network_words.specs.declared.TheConstants.{MAX_NODES}
 use Rattle.closure_seq.specs.Narrowing.{IsLessened, IsClosedAt}
 
@@ -35,13 +35,13 @@ pub record IsRoom (work : Worklist) (rows : List Bool) : Type 0 where
   pub marked : (i j : ℕ) → i < j → j < work.nodes → Waits work i j → slice_index_or rows i false ≡ true
 
 -- the sets of the pairs are those of the network
-pub record IsInStep (m : Meaning) (net : Network) (work : Worklist) : Type 0 where
+pub record IsInStep (m : Algebra) (net : Network) (work : Worklist) : Type 0 where
   pub nodes : work.nodes ≡ net.nodes
-  pub sets : (i j : ℕ) → IsProperPair net.nodes i j → slice_index work.sets (i * net.nodes + j) ≡ set_at m net.nodes net.words i j
+  pub sets : (i j : ℕ) → IsProperPair net.nodes i j → slice_index work.sets (i * net.nodes + j) ≡ relation_between m net.nodes net.words i j
 
 -- so far for the pairs of the nodes below k
-abbrev pub IsLoaded : Meaning → Network → Worklist → ℕ → Type 0
-IsLoaded m net work k = (i j : ℕ) → i < k → IsProperPair net.nodes i j → slice_index work.sets (i * net.nodes + j) ≡ set_at m net.nodes net.words i j
+abbrev pub IsLoaded : Algebra → Network → Worklist → ℕ → Type 0
+IsLoaded m net work k = (i j : ℕ) → i < k → IsProperPair net.nodes i j → slice_index work.sets (i * net.nodes + j) ≡ relation_between m net.nodes net.words i j
 
 -- of the edges from the nodes below k, each whose set isn't `full` waits
 abbrev pub IsBegun : Worklist → ℕ → ℕ → Type 0
@@ -52,11 +52,11 @@ abbrev pub left_of : Network → Worklist → ℕ
 left_of net work = 2 * sum net.words + count_by (λ b. b) work.waits
 
 -- unless one of its two source edges waits, the triple is closed
-abbrev pub IsSettledAt : Meaning → Network → Worklist → ℕ → ℕ → ℕ → Type 0
+abbrev pub IsSettledAt : Algebra → Network → Worklist → ℕ → ℕ → ℕ → Type 0
 IsSettledAt m net work i j k = ¬ Waits work i j → ¬ Waits work j k → IsClosedAt m net.nodes net.words i j k
 
 -- and so is each triple
-abbrev pub IsSettled : Meaning → Network → Worklist → Type 0
+abbrev pub IsSettled : Algebra → Network → Worklist → Type 0
 IsSettled m net work = (i j k : ℕ) → IsProperTriple net.nodes i j k → IsSettledAt m net work i j k
 
 -- the pair (a, b) is the pair (i, j), either way round
@@ -64,26 +64,26 @@ abbrev pub IsSamePair : ℕ → ℕ → ℕ → ℕ → Type 0
 IsSamePair a b i j = ((a ≡ i) × (b ≡ j)) ⊎ ((a ≡ j) × (b ≡ i))
 
 -- and so is each triple of which the edge between i and j is no source
-abbrev pub IsSettledBut : Meaning → Network → Worklist → ℕ → ℕ → Type 0
+abbrev pub IsSettledBut : Algebra → Network → Worklist → ℕ → ℕ → Type 0
 IsSettledBut m net work i j = (a b c : ℕ) → IsProperTriple net.nodes a b c → ¬ IsSamePair a b i j → ¬ IsSamePair b c i j → IsSettledAt m net work a b c
 
 -- the network lost no closed network within, each edge whose set changed waits, and no more is left to do than before
-pub record IsTurn (m : Meaning) (net : Network) (work : Worklist) (net' : Network) (work' : Worklist) : Type 0 where
+pub record IsTurn (m : Algebra) (net : Network) (work : Worklist) (net' : Network) (work' : Worklist) : Type 0 where
   pub lessened : IsLessened m net net'
   pub in_step : IsInStep m net' work'
   pub stays : (i j : ℕ) → Waits work i j → Waits work' i j
-  pub same : (i j : ℕ) → IsProperPair net.nodes i j → ¬ Waits work' i j → set_at m net.nodes net'.words i j ≡ set_at m net.nodes net.words i j
+  pub same : (i j : ℕ) → IsProperPair net.nodes i j → ¬ Waits work' i j → relation_between m net.nodes net'.words i j ≡ relation_between m net.nodes net.words i j
   pub less : left_of net' work' ≤ left_of net work
 
 -- the network lost no closed network within, and a set of it is empty
-pub record IsEmptied (m : Meaning) (old new : Network) : Type 0 where
+pub record IsEmptied (m : Algebra) (old new : Network) : Type 0 where
   pub lessened : IsLessened m old new
   pub edge : ℕ
   pub below : edge < edge_count old.nodes
   pub empty : slice_index new.words edge ≡ 0
 
 -- rounds of the worklist: every triple stays settled, and less is left to do if an edge was looked at, else nothing changed
-pub record IsRound (m : Meaning) (net : Network) (work : Worklist) (net' : Network) (work' : Worklist) (went : Bool) : Type 0 where
+pub record IsRound (m : Algebra) (net : Network) (work : Worklist) (net' : Network) (work' : Worklist) (went : Bool) : Type 0 where
   pub lessened : IsLessened m net net'
   pub in_step : IsInStep m net' work'
   pub settled : IsSettled m net' work'

@@ -3,7 +3,7 @@ ghost use Rattle.calculus_table.specs.Rel.{IsWithin};
 ghost use Rattle.calculus_table.specs.Composition.{full_of};
 ghost use Rattle.calculus_table.specs.Calculus.{IsCalculus};
 ghost use Rattle.network_words.specs.Edge.{edge_count, IsProperPair, IsProperTriple};
-ghost use Rattle.network_words.specs.Network.{Network, IsNetwork, met_at};
+ghost use Rattle.network_words.specs.Network.{Network, IsNetwork, narrowed_at};
 ghost use Rattle.network_words.specs.Closure.{IsClosed, IsClosure};
 ghost use Rattle.closure_seq.specs.Narrowing.{IsClosedAt, IsLessened};
 ghost use Rattle.closure_seq.specs.Worklist.{Worklist, edge_place, IsSized, IsInStep, IsSettledAt, IsSettledBut, IsSettled, IsIdle, IsTurn, IsRound, IsEmptied};
@@ -20,13 +20,13 @@ struct Emptied;
 
 /// Meets the set of `(i, k)` with `along`, and lets its edge wait.
 fn lessen<C: Compose>(net: &mut Net, c: &C, work: &mut Work, i: u32, k: u32, along: Rel)
-    requires lawful { IsCalculus (C.meaning c.now) }
-    requires network { IsNetwork (C.meaning c.now) net.old.nodes net.old.words }
-    requires in_step { IsInStep (C.meaning c.now) net.old work.old }
+    requires lawful { IsCalculus (C.algebra c.now) }
+    requires network { IsNetwork (C.algebra c.now) net.old.nodes net.old.words }
+    requires in_step { IsInStep (C.algebra c.now) net.old work.old }
     requires proper { IsProperPair net.old.nodes i k }
-    requires within { IsWithin along (full_of (C.meaning c.now)) }
-    ensures net { net.new ≡ record net.old { words = met_at (C.meaning c.now) net.old.nodes net.old.words i k along } }
-    ensures in_step { IsInStep (C.meaning c.now) net.new work.new }
+    requires within { IsWithin along (full_of (C.algebra c.now)) }
+    ensures net { net.new ≡ record net.old { words = narrowed_at (C.algebra c.now) net.old.nodes net.old.words i k along } }
+    ensures in_step { IsInStep (C.algebra c.now) net.new work.new }
     ensures work { work.new ≡ record work.old { sets = work.new.sets; waits = slice_set work.old.waits (edge_place work.old.nodes i k) true } }
     ensures sized { IsSized work.old }
 {
@@ -47,13 +47,13 @@ fn narrow<C: Compose>(
     j: u32,
     k: u32,
 ) -> Result<(), Emptied>
-    requires lawful { IsCalculus (C.meaning c.now) }
-    requires network { IsNetwork (C.meaning c.now) net.old.nodes net.old.words }
-    requires in_step { IsInStep (C.meaning c.now) net.old work.old }
+    requires lawful { IsCalculus (C.algebra c.now) }
+    requires network { IsNetwork (C.algebra c.now) net.old.nodes net.old.words }
+    requires in_step { IsInStep (C.algebra c.now) net.old work.old }
     requires proper { IsProperTriple net.old.nodes i j k }
-    ensures turn { OnOk result (IsTurn (C.meaning c.now) net.old work.old net.new work.new) }
-    ensures closed { OnOk result (IsClosedAt (C.meaning c.now) net.old.nodes net.new.words i j k) }
-    ensures emptied { OnErr result (IsEmptied (C.meaning c.now) net.old net.new) }
+    ensures turn { OnOk result (IsTurn (C.algebra c.now) net.old work.old net.new work.new) }
+    ensures closed { OnOk result (IsClosedAt (C.algebra c.now) net.old.nodes net.new.words i j k) }
+    ensures emptied { OnErr result (IsEmptied (C.algebra c.now) net.old net.new) }
     ensures nodes { work.new.nodes ≡ work.old.nodes }
 {
     let set = work.set(i, k);
@@ -71,13 +71,13 @@ fn narrow<C: Compose>(
 
 /// Narrows the set of each pair `(i, k)` by way of `j`.
 fn spread<C: Compose>(net: &mut Net, c: &C, work: &mut Work, i: u32, j: u32) -> Result<(), Emptied>
-    requires lawful { IsCalculus (C.meaning c.now) }
-    requires network { IsNetwork (C.meaning c.now) net.old.nodes net.old.words }
-    requires in_step { IsInStep (C.meaning c.now) net.old work.old }
+    requires lawful { IsCalculus (C.algebra c.now) }
+    requires network { IsNetwork (C.algebra c.now) net.old.nodes net.old.words }
+    requires in_step { IsInStep (C.algebra c.now) net.old work.old }
     requires proper { IsProperPair net.old.nodes i j }
-    ensures turn { OnOk result (IsTurn (C.meaning c.now) net.old work.old net.new work.new) }
-    ensures settled { OnOk result ((k : ℕ) → IsProperTriple net.old.nodes i j k → IsSettledAt (C.meaning c.now) net.new work.new i j k) }
-    ensures emptied { OnErr result (IsEmptied (C.meaning c.now) net.old net.new) }
+    ensures turn { OnOk result (IsTurn (C.algebra c.now) net.old work.old net.new work.new) }
+    ensures settled { OnOk result ((k : ℕ) → IsProperTriple net.old.nodes i j k → IsSettledAt (C.algebra c.now) net.new work.new i j k) }
+    ensures emptied { OnErr result (IsEmptied (C.algebra c.now) net.old net.new) }
     ensures nodes { work.new.nodes ≡ work.old.nodes }
 {
     let nodes = net.nodes();
@@ -91,14 +91,14 @@ fn spread<C: Compose>(net: &mut Net, c: &C, work: &mut Work, i: u32, j: u32) -> 
 
 /// Looks at the triples of which the edge between `i` and `j` is a source.
 fn look<C: Compose>(net: &mut Net, c: &C, work: &mut Work, i: u32, j: u32) -> Result<(), Emptied>
-    requires lawful { IsCalculus (C.meaning c.now) }
-    requires network { IsNetwork (C.meaning c.now) net.old.nodes net.old.words }
-    requires in_step { IsInStep (C.meaning c.now) net.old work.old }
+    requires lawful { IsCalculus (C.algebra c.now) }
+    requires network { IsNetwork (C.algebra c.now) net.old.nodes net.old.words }
+    requires in_step { IsInStep (C.algebra c.now) net.old work.old }
     requires proper { IsProperPair net.old.nodes i j }
-    requires settled { IsSettledBut (C.meaning c.now) net.old work.old i j }
-    ensures turn { OnOk result (IsTurn (C.meaning c.now) net.old work.old net.new work.new) }
-    ensures settled { OnOk result (IsSettled (C.meaning c.now) net.new work.new) }
-    ensures emptied { OnErr result (IsEmptied (C.meaning c.now) net.old net.new) }
+    requires settled { IsSettledBut (C.algebra c.now) net.old work.old i j }
+    ensures turn { OnOk result (IsTurn (C.algebra c.now) net.old work.old net.new work.new) }
+    ensures settled { OnOk result (IsSettled (C.algebra c.now) net.new work.new) }
+    ensures emptied { OnErr result (IsEmptied (C.algebra c.now) net.old net.new) }
     ensures nodes { work.new.nodes ≡ work.old.nodes }
 {
     spread(net, c, work, i, j)?;
@@ -108,14 +108,14 @@ fn look<C: Compose>(net: &mut Net, c: &C, work: &mut Work, i: u32, j: u32) -> Re
 /// Looks at the edges from `i` to greater nodes that wait, the last first: most of those that begin to wait meanwhile come in the
 /// next round, when more sets are small. Whether there was one.
 fn look_row<C: Compose>(net: &mut Net, c: &C, work: &mut Work, i: u32) -> Result<bool, Emptied>
-    requires lawful { IsCalculus (C.meaning c.now) }
-    requires network { IsNetwork (C.meaning c.now) net.old.nodes net.old.words }
-    requires in_step { IsInStep (C.meaning c.now) net.old work.old }
-    requires settled { IsSettled (C.meaning c.now) net.old work.old }
+    requires lawful { IsCalculus (C.algebra c.now) }
+    requires network { IsNetwork (C.algebra c.now) net.old.nodes net.old.words }
+    requires in_step { IsInStep (C.algebra c.now) net.old work.old }
+    requires settled { IsSettled (C.algebra c.now) net.old work.old }
     requires below { i < net.old.nodes }
-    ensures round { IfOk result (IsRound (C.meaning c.now) net.old work.old net.new work.new) }
+    ensures round { IfOk result (IsRound (C.algebra c.now) net.old work.old net.new work.new) }
     ensures idle { IfOk result (λ went. went ≡ false → IsIdle work.new i) }
-    ensures emptied { OnErr result (IsEmptied (C.meaning c.now) net.old net.new) }
+    ensures emptied { OnErr result (IsEmptied (C.algebra c.now) net.old net.new) }
     ensures nodes { work.new.nodes ≡ work.old.nodes }
 {
     if !work.may_wait(i) {
@@ -139,13 +139,13 @@ fn look_row<C: Compose>(net: &mut Net, c: &C, work: &mut Work, i: u32) -> Result
 
 /// Looks at the edges that wait, once in their order. Whether there was one.
 fn look_all<C: Compose>(net: &mut Net, c: &C, work: &mut Work) -> Result<bool, Emptied>
-    requires lawful { IsCalculus (C.meaning c.now) }
-    requires network { IsNetwork (C.meaning c.now) net.old.nodes net.old.words }
-    requires in_step { IsInStep (C.meaning c.now) net.old work.old }
-    requires settled { IsSettled (C.meaning c.now) net.old work.old }
-    ensures round { IfOk result (IsRound (C.meaning c.now) net.old work.old net.new work.new) }
+    requires lawful { IsCalculus (C.algebra c.now) }
+    requires network { IsNetwork (C.algebra c.now) net.old.nodes net.old.words }
+    requires in_step { IsInStep (C.algebra c.now) net.old work.old }
+    requires settled { IsSettled (C.algebra c.now) net.old work.old }
+    ensures round { IfOk result (IsRound (C.algebra c.now) net.old work.old net.new work.new) }
     ensures idle { IfOk result (λ went. went ≡ false → (i : ℕ) → i < net.old.nodes → IsIdle work.new i) }
-    ensures emptied { OnErr result (IsEmptied (C.meaning c.now) net.old net.new) }
+    ensures emptied { OnErr result (IsEmptied (C.algebra c.now) net.old net.new) }
     ensures nodes { work.new.nodes ≡ work.old.nodes }
 {
     let mut went = false;
@@ -160,13 +160,13 @@ fn look_all<C: Compose>(net: &mut Net, c: &C, work: &mut Work) -> Result<bool, E
 
 /// Looks at edges until none waits.
 fn settle<C: Compose>(net: &mut Net, c: &C, work: &mut Work) -> Result<(), Emptied>
-    requires lawful { IsCalculus (C.meaning c.now) }
-    requires network { IsNetwork (C.meaning c.now) net.old.nodes net.old.words }
-    requires in_step { IsInStep (C.meaning c.now) net.old work.old }
-    requires settled { IsSettled (C.meaning c.now) net.old work.old }
-    ensures lessened { OnOk result (IsLessened (C.meaning c.now) net.old net.new) }
-    ensures closed { OnOk result (IsClosed (C.meaning c.now) net.old.nodes net.new.words) }
-    ensures emptied { OnErr result (IsEmptied (C.meaning c.now) net.old net.new) }
+    requires lawful { IsCalculus (C.algebra c.now) }
+    requires network { IsNetwork (C.algebra c.now) net.old.nodes net.old.words }
+    requires in_step { IsInStep (C.algebra c.now) net.old work.old }
+    requires settled { IsSettled (C.algebra c.now) net.old work.old }
+    ensures lessened { OnOk result (IsLessened (C.algebra c.now) net.old net.new) }
+    ensures closed { OnOk result (IsClosed (C.algebra c.now) net.old.nodes net.new.words) }
+    ensures emptied { OnErr result (IsEmptied (C.algebra c.now) net.old net.new) }
     ensures nodes { work.new.nodes ≡ work.old.nodes }
 {
     while look_all(net, c, work)? {}
@@ -187,10 +187,10 @@ fn empty_all(net: &mut Net)
 
 /// Closes a network each of whose triples that isn't closed has a source edge that waits.
 fn finish<C: Compose>(net: &mut Net, c: &C, work: &mut Work)
-    requires network { IsNetwork (C.meaning c.now) net.old.nodes net.old.words }
-    requires in_step { IsInStep (C.meaning c.now) net.old work.old }
-    requires settled { IsSettled (C.meaning c.now) net.old work.old }
-    ensures closure { IsClosure (C.meaning c.now) net.old.nodes net.old.words net.new.words }
+    requires network { IsNetwork (C.algebra c.now) net.old.nodes net.old.words }
+    requires in_step { IsInStep (C.algebra c.now) net.old work.old }
+    requires settled { IsSettled (C.algebra c.now) net.old work.old }
+    ensures closure { IsClosure (C.algebra c.now) net.old.nodes net.old.words net.new.words }
     ensures rest { net.new ≡ record net.old { words = net.new.words } }
     ensures nodes { work.new.nodes ≡ work.old.nodes }
 {
@@ -204,8 +204,8 @@ fn finish<C: Compose>(net: &mut Net, c: &C, work: &mut Work)
 /// no memory.
 pub fn close_with<C: Compose>(net: &mut Net, c: &C, work: &mut Work)
     requires nodes { work.old.nodes ≡ net.old.nodes }
-    requires network { IsNetwork (C.meaning c.now) net.old.nodes net.old.words }
-    ensures closure { IsClosure (C.meaning c.now) net.old.nodes net.old.words net.new.words }
+    requires network { IsNetwork (C.algebra c.now) net.old.nodes net.old.words }
+    ensures closure { IsClosure (C.algebra c.now) net.old.nodes net.old.words net.new.words }
     ensures rest { net.new ≡ record net.old { words = net.new.words } }
     ensures work { work.new.nodes ≡ work.old.nodes }
 {
@@ -219,10 +219,10 @@ pub fn close_with<C: Compose>(net: &mut Net, c: &C, work: &mut Work)
 /// but looks at no more triples than that change asks for.
 pub fn close_from<C: Compose>(net: &mut Net, c: &C, work: &mut Work, i: u32, j: u32)
     requires nodes { work.old.nodes ≡ net.old.nodes }
-    requires network { IsNetwork (C.meaning c.now) net.old.nodes net.old.words }
+    requires network { IsNetwork (C.algebra c.now) net.old.nodes net.old.words }
     requires proper { IsProperPair net.old.nodes i j }
-    requires closed_but { IsClosedBut (C.meaning c.now) net.old.nodes net.old.words i j }
-    ensures closure { IsClosure (C.meaning c.now) net.old.nodes net.old.words net.new.words }
+    requires closed_but { IsClosedBut (C.algebra c.now) net.old.nodes net.old.words i j }
+    ensures closure { IsClosure (C.algebra c.now) net.old.nodes net.old.words net.new.words }
     ensures rest { net.new ≡ record net.old { words = net.new.words } }
     ensures work { work.new.nodes ≡ work.old.nodes }
 {
@@ -233,8 +233,8 @@ pub fn close_from<C: Compose>(net: &mut Net, c: &C, work: &mut Work, i: u32, j: 
 
 /// Closes the network as `close_with` does, with room of its own. On want of memory the network is as before.
 pub fn close<C: Compose>(alloc: Global, net: &mut Net, c: &C) -> Result<(), Memory>
-    requires { IsNetwork (C.meaning c.now) net.old.nodes net.old.words }
-    ensures closure { OnOk result (IsClosure (C.meaning c.now) net.old.nodes net.old.words net.new.words) }
+    requires { IsNetwork (C.algebra c.now) net.old.nodes net.old.words }
+    ensures closure { OnOk result (IsClosure (C.algebra c.now) net.old.nodes net.old.words net.new.words) }
     ensures rest { OnOk result (net.new ≡ record net.old { words = net.new.words }) }
     ensures memory { OnErr result (net.new ≡ net.old) }
 {

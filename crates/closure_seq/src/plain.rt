@@ -12,11 +12,11 @@ use network_words::Net;
 
 /// Narrows the set of `(i, k)` by way of `j`. Whether it became smaller.
 fn narrow_triple<C: Compose>(net: &mut Net, c: &C, i: u32, j: u32, k: u32) -> bool
-    requires lawful { IsCalculus (C.meaning c.now) }
-    requires network { IsNetwork (C.meaning c.now) net.old.nodes net.old.words }
+    requires lawful { IsCalculus (C.algebra c.now) }
+    requires network { IsNetwork (C.algebra c.now) net.old.nodes net.old.words }
     requires proper { IsProperTriple net.old.nodes i j k }
-    ensures narrowed { IsNarrowing (C.meaning c.now) net.old net.new result }
-    ensures closed { result ≡ false → IsClosedAt (C.meaning c.now) net.old.nodes net.new.words i j k }
+    ensures narrowed { IsNarrowing (C.algebra c.now) net.old net.new result }
+    ensures closed { result ≡ false → IsClosedAt (C.algebra c.now) net.old.nodes net.new.words i j k }
 {
     let along = c.compose(net.get(c, i, j), net.get(c, j, k));
     if net.get(c, i, k).within(along) {
@@ -28,11 +28,11 @@ fn narrow_triple<C: Compose>(net: &mut Net, c: &C, i: u32, j: u32, k: u32) -> bo
 
 /// Narrows the set of `(i, k)` by way of every other node. Whether it became smaller.
 fn narrow_pair<C: Compose>(net: &mut Net, c: &C, i: u32, k: u32) -> bool
-    requires lawful { IsCalculus (C.meaning c.now) }
-    requires network { IsNetwork (C.meaning c.now) net.old.nodes net.old.words }
+    requires lawful { IsCalculus (C.algebra c.now) }
+    requires network { IsNetwork (C.algebra c.now) net.old.nodes net.old.words }
     requires proper { IsProperPair net.old.nodes i k }
-    ensures narrowed { IsNarrowing (C.meaning c.now) net.old net.new result }
-    ensures closed { result ≡ false → IsPairClosed (C.meaning c.now) net.old.nodes net.new.words i k }
+    ensures narrowed { IsNarrowing (C.algebra c.now) net.old net.new result }
+    ensures closed { result ≡ false → IsPairClosed (C.algebra c.now) net.old.nodes net.new.words i k }
 {
     let mut changed = false;
     let nodes = net.nodes();
@@ -46,11 +46,11 @@ fn narrow_pair<C: Compose>(net: &mut Net, c: &C, i: u32, k: u32) -> bool
 
 /// Narrows the set of each pair `(i, k)` with `i < k`. Whether one became smaller.
 fn narrow_row<C: Compose>(net: &mut Net, c: &C, i: u32) -> bool
-    requires lawful { IsCalculus (C.meaning c.now) }
-    requires network { IsNetwork (C.meaning c.now) net.old.nodes net.old.words }
+    requires lawful { IsCalculus (C.algebra c.now) }
+    requires network { IsNetwork (C.algebra c.now) net.old.nodes net.old.words }
     requires below { i < net.old.nodes }
-    ensures narrowed { IsNarrowing (C.meaning c.now) net.old net.new result }
-    ensures closed { result ≡ false → IsRowClosed (C.meaning c.now) net.old.nodes net.new.words i }
+    ensures narrowed { IsNarrowing (C.algebra c.now) net.old net.new result }
+    ensures closed { result ≡ false → IsRowClosed (C.algebra c.now) net.old.nodes net.new.words i }
 {
     let mut changed = false;
     let nodes = net.nodes();
@@ -64,9 +64,9 @@ fn narrow_row<C: Compose>(net: &mut Net, c: &C, i: u32) -> bool
 
 /// Narrows each set by way of every other node, once. Whether one became smaller.
 pub fn sweep<C: Compose>(net: &mut Net, c: &C) -> bool
-    requires { IsNetwork (C.meaning c.now) net.old.nodes net.old.words }
-    ensures narrowed { IsNarrowing (C.meaning c.now) net.old net.new result }
-    ensures closed { result ≡ false → IsClosed (C.meaning c.now) net.old.nodes net.new.words }
+    requires { IsNetwork (C.algebra c.now) net.old.nodes net.old.words }
+    ensures narrowed { IsNarrowing (C.algebra c.now) net.old net.new result }
+    ensures closed { result ≡ false → IsClosed (C.algebra c.now) net.old.nodes net.new.words }
 {
     lawful(c);
     let mut changed = false;
@@ -81,8 +81,8 @@ pub fn sweep<C: Compose>(net: &mut Net, c: &C) -> bool
 
 /// Closes the network: sweeps until nothing changes.
 pub fn close<C: Compose>(net: &mut Net, c: &C)
-    requires { IsNetwork (C.meaning c.now) net.old.nodes net.old.words }
-    ensures closure { IsClosure (C.meaning c.now) net.old.nodes net.old.words net.new.words }
+    requires { IsNetwork (C.algebra c.now) net.old.nodes net.old.words }
+    ensures closure { IsClosure (C.algebra c.now) net.old.nodes net.old.words net.new.words }
     ensures rest { net.new ≡ record net.old { words = net.new.words } }
 {
     while sweep(net, c) {}

@@ -58,7 +58,7 @@ fn random_net(alloc: Global, full: Rel, nodes: u32, seed: u64) -> Result<Net, Ne
 }
 
 fn is_network(net: &Net, c: &Calculus) -> bool
-    ensures { IsTrue result → IsNetwork c.now.meaning net.now.nodes net.now.words }
+    ensures { IsTrue result → IsNetwork c.now.algebra net.now.nodes net.now.words }
 {
     let _nodes = net.nodes();
     let full = c.full();
@@ -79,10 +79,10 @@ fn narrow_and_close(
     j: u32,
     rel: Rel,
 ) -> Result<(), Memory>
-    requires network { IsNetwork c.now.meaning net.old.nodes net.old.words }
-    requires closed { IsClosed c.now.meaning net.old.nodes net.old.words }
+    requires network { IsNetwork c.now.algebra net.old.nodes net.old.words }
+    requires closed { IsClosed c.now.algebra net.old.nodes net.old.words }
     requires proper { IsProperPair net.old.nodes i j }
-    requires within { IsWithin rel (full_of c.now.meaning) }
+    requires within { IsWithin rel (full_of c.now.algebra) }
 {
     let mut work = Work::new(alloc, net.nodes())?;
     net.narrow(c, i, j, rel);

@@ -176,11 +176,11 @@ impl Work {
     /// Copies the sets of the pairs of node `i`.
     fn load_row<C: Compose>(&mut self, net: &Net, c: &C, i: u32)
         requires nodes { self.old.nodes ≡ net.now.nodes }
-        requires network { IsNetwork (C.meaning c.now) net.now.nodes net.now.words }
+        requires network { IsNetwork (C.algebra c.now) net.now.nodes net.now.words }
         requires below { i < net.now.nodes }
-        requires before { IsLoaded (C.meaning c.now) net.now self.old i }
+        requires before { IsLoaded (C.algebra c.now) net.now self.old i }
         ensures nodes { self.new.nodes ≡ self.old.nodes }
-        ensures loaded { IsLoaded (C.meaning c.now) net.now self.new (i + 1) }
+        ensures loaded { IsLoaded (C.algebra c.now) net.now self.new (i + 1) }
     {
         let nodes = self.nodes();
         for j in 0..nodes {
@@ -194,8 +194,8 @@ impl Work {
     /// Copies the sets of all pairs.
     pub(crate) fn load<C: Compose>(&mut self, net: &Net, c: &C)
         requires nodes { self.old.nodes ≡ net.now.nodes }
-        requires network { IsNetwork (C.meaning c.now) net.now.nodes net.now.words }
-        ensures { IsInStep (C.meaning c.now) net.now self.new }
+        requires network { IsNetwork (C.algebra c.now) net.now.nodes net.now.words }
+        ensures { IsInStep (C.algebra c.now) net.now self.new }
     {
         let nodes = self.nodes();
         for i in 0..nodes {

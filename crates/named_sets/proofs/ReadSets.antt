@@ -5,7 +5,7 @@ use Rattle.std.specs.Int.{bit_at}
 use Rattle.std.proofs.lemmas.Bool.{eqb-true, eq-eqb, true≢false}
 use Rattle.std.proofs.lemmas.List.{drop_more}
 use Rattle.calculus_table.specs.Rel.{Has, IsWithin}
-use Rattle.calculus_table.specs.Meaning.{Meaning}
+use Rattle.calculus_table.specs.Algebra.{Algebra}
 use Rattle.calculus_table.specs.Composition.{full_of, union_below, if_has}
 use Rattle.calculus_table.specs.Names.{place_of}
 use Rattle.calculus_table.specs.Calculus.{AreDistinct}
@@ -25,7 +25,7 @@ set_from-next v bases set base xs k d below is =
 
 pub set-within : (n set r : ℕ) → IsWithin set (2 ^ n - 1) → r < n → IsWithin (bit_or set (2 ^ r)) (2 ^ n - 1)
 set-within n set r h below =
-    let m : Meaning = record { size = n; identity = 0; converses = []; table = [] } in
+    let m : Algebra = record { size = n; identity = 0; converses = []; table = [] } in
     IsWithin-union set (2 ^ r) (2 ^ n - 1) h (single-within r (2 ^ n - 1) (Has-full m r below))
 
 -- ---- the names of a set's members
@@ -70,7 +70,7 @@ set_from-members names a (suc r) d h =
     ∙ low-step names a r w (bit_at a r == 1) refl (place_of-found names w r d (name_there names r (omega arith)))
     ∙ ap (λ k. Some (low a k)) (let e : r + 1 ≡ suc r = omega arith in e)
 
-low-all : (m : Meaning) (a : ℕ) → IsWithin a (full_of m) → low a m.size ≡ a
+low-all : (m : Algebra) (a : ℕ) → IsWithin a (full_of m) → low a m.size ≡ a
 low-all m a w = IsWithin-antisym (low a m.size) a
     (record {
       each = λ t h.
@@ -81,5 +81,5 @@ low-all m a w = IsWithin-antisym (low a m.size) a
     (record { each = λ t h. Has-union_below m.size (λ r. if_has a r (2 ^ r)) t t (full-member m t (w.each t h)) (Has-if_has a t (2 ^ t) t h (Has-single t)) })
 
 -- the set of the names of its members
-pub set_of-members : (names : List (List ℕ)) (m : Meaning) (a : ℕ) → AreDistinct names → length names ≡ m.size → IsWithin a (full_of m) → set_of names (members_below names a m.size) ≡ Some a
+pub set_of-members : (names : List (List ℕ)) (m : Algebra) (a : ℕ) → AreDistinct names → length names ≡ m.size → IsWithin a (full_of m) → set_of names (members_below names a m.size) ≡ Some a
 set_of-members names m a d each w = set_from-members names a m.size d (omega arith) ∙ ap Some (low-all m a w)

@@ -7,7 +7,7 @@ use std::alloc::AllocError;
 
 /// Appends the name of `r` and a space, where it is a member of the set.
 fn push_member(text: &mut String, c: &Calculus, set: Rel, r: u32) -> Result<(), AllocError>
-    requires { r < c.now.meaning.size }
+    requires { r < c.now.algebra.size }
     ensures { OnOk result (string_bytes text.new ≡ string_bytes text.old ++ member_text c.now.names set r) }
 {
     if set.has(r) {

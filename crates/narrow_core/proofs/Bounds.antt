@@ -6,15 +6,15 @@ use Rattle.std.proofs.lemmas.Bool.{cases_eq}
 use Rattle.std.proofs.lemmas.List.Elements.{All-append, All-push, All-nil}
 use Rattle.std.proofs.lemmas.Option.{slice_get_within}
 use Rattle.calculus_table.specs.Rel.{IsWithin}
-use Rattle.calculus_table.specs.Meaning.{Meaning}
+use Rattle.calculus_table.specs.Algebra.{Algebra}
 use Rattle.calculus_table.specs.Composition.{full_of, composition}
 use Rattle.calculus_table.specs.Calculus.{IsCalculus}
 use Rattle.calculus_table.proofs.Sets.{IsWithin-trans, IsWithin-meet_r}
 use Rattle.network_words.specs.declared.fact.Fact.{Fact}
 use Rattle.network_words.specs.Edge.{edge_count, IsProperTriple, edge_between}
-use Rattle.network_words.specs.Network.{AreWithin, IsNetwork, met_at, set_at}
+use Rattle.network_words.specs.Network.{Refines, IsNetwork, narrowed_at, relation_between}
 use Rattle.network_words.specs.Closure.{IsClosed}
-use Rattle.network_words.proofs.Networks.{AreWithin-refl, AreWithin-trans, met_at-within, met_at-keeps, set_at-met_at, narrow-keeps}
+use Rattle.network_words.proofs.Networks.{Refines-refl, Refines-trans, narrowed_at-within, narrowed_at-keeps, relation_between-narrowed_at, narrow-keeps}
 use Rattle.narrow_core.specs.declared.event.Event.{Event}
 use Rattle.narrow_core.specs.declared.event.Event.TheVariants.{Assert, Read, Narrow, Split, Join}
 use Rattle.narrow_core.specs.Actor.{ActorState, IsLiveAt, EachLive, fresh, seeing, stating, giving, joining, spent, met_words}
@@ -22,25 +22,25 @@ use Rattle.narrow_core.specs.Machine.{CoreState, IsProperFact, IsCore}
 use Rattle.narrow_core.specs.Event.{IsAllowed, IsStep}
 use Rattle.narrow_core.specs.Bound.{IsWithinFact, IsWithinActor, HasSeenWithin, IsCandidate, Bound}
 use Rattle.narrow_core.proofs.Places.{get-set_same, get-set_other, get-more, All-last, All-left, All-right}
-use Rattle.narrow_core.proofs.Sights.{facts-mono, edge_between-lt, set_at-edge, seen-within, seen-keeps, seen-edge, met-within_l, met-within_r, met-keeps, AreSets-network}
+use Rattle.narrow_core.proofs.Sights.{facts-mono, edge_between-lt, relation_between-edge, seen-within, seen-keeps, seen-edge, met-within_l, met-within_r, met-keeps, AreSets-network}
 use Rattle.narrow_core.proofs.Cores.{same_actor, live_here, live-set, live-more, weights-same, weights-split, weights-join}
 
 -- ---- a step of one actor
 
 -- what a step of one actor gives: the words and the actor after it
-pub record Move (m : Meaning) (n : ℕ) (words after : List ℕ) (a b : ActorState) : Type 0 where
+pub record Move (m : Algebra) (n : ℕ) (words after : List ℕ) (a b : ActorState) : Type 0 where
   pub live : b.is_live ≡ a.is_live
   pub weight : b.weight ≡ a.weight
-  pub less : AreWithin after words
-  pub sees : AreWithin words a.seen → AreWithin after b.seen
-  pub sight : AreWithin b.seen a.seen
+  pub less : Refines after words
+  pub sees : Refines words a.seen → Refines after b.seen
+  pub sight : Refines b.seen a.seen
   pub facts : (xs : List ℕ) → All (IsWithinFact m n xs) b.mine → All (IsWithinFact m n xs) a.mine
   pub stated : All (IsWithinFact m n after) a.mine → All (IsWithinFact m n after) b.mine
   pub seen_stated : All (IsWithinFact m n b.seen) a.mine → All (IsWithinFact m n b.seen) b.mine
-  pub kept : (xs : List ℕ) → IsNetwork m n xs → IsClosed m n xs → AreWithin xs words → AreWithin xs a.seen → All (IsWithinFact m n xs) b.mine → AreWithin xs after
+  pub kept : (xs : List ℕ) → IsNetwork m n xs → IsClosed m n xs → Refines xs words → Refines xs a.seen → All (IsWithinFact m n xs) b.mine → Refines xs after
 
 -- the facts of every actor that was live are those of one that is
-move-facts : (m : Meaning) (s : CoreState) (words xs : List ℕ) (k : ℕ) (a b : ActorState) → IsLiveAt s.actors k a → Move m s.nodes s.words words a b →
+move-facts : (m : Algebra) (s : CoreState) (words xs : List ℕ) (k : ℕ) (a b : ActorState) → IsLiveAt s.actors k a → Move m s.nodes s.words words a b →
     EachLive (set s.actors k b) (λ x. All (IsWithinFact m s.nodes xs) x.mine) → EachLive s.actors (λ x. All (IsWithinFact m s.nodes xs) x.mine)
 move-facts m s words xs k a b l move all j c t = elim (cases_eq j k) [
   | inl same ↦ (let e : a ≡ c = same_actor s.actors k a c l.is_there (subst (λ (i : ℕ). slice_get s.actors i ≡ Some c) same t.is_there) in
@@ -49,40 +49,40 @@ move-facts m s words xs k a b l move all j c t = elim (cases_eq j k) [
   | inr differ ↦ all j c (record { is_there = get-set_other s.actors k j b differ ∙ t.is_there; is_live = t.is_live })
 ]
 
-pub bound-move : (m : Meaning) (s : CoreState) (words : List ℕ) (k : ℕ) (a b : ActorState) → Bound m s → IsLiveAt s.actors k a → Move m s.nodes s.words words a b →
+pub bound-move : (m : Algebra) (s : CoreState) (words : List ℕ) (k : ℕ) (a b : ActorState) → Bound m s → IsLiveAt s.actors k a → Move m s.nodes s.words words a b →
     Bound m (record s { words = words; actors = set s.actors k b })
 bound-move m s words k a b h l move = record {
   nothing_lost = λ xs cand.
       let old : IsCandidate m s xs = record { network = cand.network; closed = cand.closed; opening = cand.opening; facts = move-facts m s words xs k a b l move cand.facts } in
-      let w : AreWithin xs s.words = h.nothing_lost xs old in
-      move.kept xs cand.network cand.closed w (AreWithin-trans xs s.words a.seen w (h.words_within.actors k a l).seen)
+      let w : Refines xs s.words = h.nothing_lost xs old in
+      move.kept xs cand.network cand.closed w (Refines-trans xs s.words a.seen w (h.words_within.actors k a l).seen)
       (cand.facts k b (record { is_there = get-set_same s.actors k b (slice_get_within s.actors k a l.is_there); is_live = move.live ∙ l.is_live }));
   words_within = record {
-    opening = AreWithin-trans words s.words s.opening move.less h.words_within.opening;
+    opening = Refines-trans words s.words s.opening move.less h.words_within.opening;
     actors = live-set s.actors k b (IsWithinActor m s.nodes words)
         (λ t. record {
           seen = move.sees (h.words_within.actors k a l).seen;
           facts = move.stated (facts-mono m s.nodes words s.words a.mine move.less (h.words_within.actors k a l).facts);
         })
         (λ j c d t. record {
-          seen = AreWithin-trans words s.words c.seen move.less (h.words_within.actors j c t).seen;
+          seen = Refines-trans words s.words c.seen move.less (h.words_within.actors j c t).seen;
           facts = facts-mono m s.nodes words s.words c.mine move.less (h.words_within.actors j c t).facts;
         });
   };
   seen_within = live-set s.actors k b (HasSeenWithin m s.nodes s.opening)
       (λ t. record {
-        opening = AreWithin-trans b.seen a.seen s.opening move.sight (h.seen_within k a l).opening;
+        opening = Refines-trans b.seen a.seen s.opening move.sight (h.seen_within k a l).opening;
         facts = move.seen_stated (facts-mono m s.nodes b.seen a.seen a.mine move.sight (h.seen_within k a l).facts);
       })
       (λ j c d t. h.seen_within j c t);
   weights = weights-same s.opening_weight s.actors k a b l.is_there move.live move.weight h.weights;
 }
 
-pub move-read : (m : Meaning) (n : ℕ) (words : List ℕ) (e : ℕ) (a : ActorState) → Move m n words words a (seeing e (slice_index words e) a)
+pub move-read : (m : Algebra) (n : ℕ) (words : List ℕ) (e : ℕ) (a : ActorState) → Move m n words words a (seeing e (slice_index words e) a)
 move-read m n words e a = record {
   live = refl;
   weight = refl;
-  less = AreWithin-refl words;
+  less = Refines-refl words;
   sees = seen-keeps words a.seen e;
   sight = seen-within a.seen e (slice_index words e);
   facts = λ xs h. h;
@@ -91,53 +91,53 @@ move-read m n words e a = record {
   kept = λ xs net closed w seen facts. w;
 }
 
-pub move-narrow : (m : Meaning) (n : ℕ) (words after : List ℕ) (i j k e : ℕ) (a : ActorState) → IsCalculus m → IsProperTriple n i j k →
-    after ≡ met_at m n words i k (composition m (set_at m n a.seen i j) (set_at m n a.seen j k)) → Move m n words after a (seeing e (slice_index after e) a)
+pub move-narrow : (m : Algebra) (n : ℕ) (words after : List ℕ) (i j k e : ℕ) (a : ActorState) → IsCalculus m → IsProperTriple n i j k →
+    after ≡ narrowed_at m n words i k (composition m (relation_between m n a.seen i j) (relation_between m n a.seen j k)) → Move m n words after a (seeing e (slice_index after e) a)
 move-narrow m n words after i j k e a calculus p eq =
-    let x = composition m (set_at m n a.seen i j) (set_at m n a.seen j k) in
-    let less : AreWithin after words = subst (λ (y : List ℕ). AreWithin y words) (sym eq) (met_at-within m n words i k x) in
+    let x = composition m (relation_between m n a.seen i j) (relation_between m n a.seen j k) in
+    let less : Refines after words = subst (λ (y : List ℕ). Refines y words) (sym eq) (narrowed_at-within m n words i k x) in
     record {
       live = refl;
       weight = refl;
       less = less;
-      sees = λ h. seen-keeps after a.seen e (AreWithin-trans after words a.seen less h);
+      sees = λ h. seen-keeps after a.seen e (Refines-trans after words a.seen less h);
       sight = seen-within a.seen e (slice_index after e);
       facts = λ xs h. h;
       stated = λ h. h;
       seen_stated = λ h. h;
-      kept = λ xs net closed w seen facts. subst (AreWithin xs) (sym eq) (narrow-keeps m n xs words a.seen i j k calculus net closed p w seen);
+      kept = λ xs net closed w seen facts. subst (Refines xs) (sym eq) (narrow-keeps m n xs words a.seen i j k calculus net closed p w seen);
     }
 
-pub move-assert : (m : Meaning) (n : ℕ) (words after : List ℕ) (fact : Fact) (a : ActorState) → IsCalculus m → IsNetwork m n words → length a.seen ≡ edge_count n →
-    IsProperFact n (full_of m) fact → after ≡ met_at m n words fact.i fact.j fact.rel →
+pub move-assert : (m : Algebra) (n : ℕ) (words after : List ℕ) (fact : Fact) (a : ActorState) → IsCalculus m → IsNetwork m n words → length a.seen ≡ edge_count n →
+    IsProperFact n (full_of m) fact → after ≡ narrowed_at m n words fact.i fact.j fact.rel →
     Move m n words after a (seeing (edge_between n fact.i fact.j) (slice_index after (edge_between n fact.i fact.j)) (stating fact a))
 move-assert m n words after fact a calculus net l p eq =
     let e = edge_between n fact.i fact.j in
     let x = slice_index after e in
-    let less : AreWithin after words = subst (λ (y : List ℕ). AreWithin y words) (sym eq) (met_at-within m n words fact.i fact.j fact.rel) in
+    let less : Refines after words = subst (λ (y : List ℕ). Refines y words) (sym eq) (narrowed_at-within m n words fact.i fact.j fact.rel) in
     let here : IsWithinFact m n after fact =
-    subst (λ (y : List ℕ). IsWithin (set_at m n y fact.i fact.j) fact.rel) (sym eq)
-    (rw (set_at-met_at m n words fact.i fact.j fact.rel calculus net p.pair p.within) (IsWithin-meet_r (set_at m n words fact.i fact.j) fact.rel)) in
+    subst (λ (y : List ℕ). IsWithin (relation_between m n y fact.i fact.j) fact.rel) (sym eq)
+    (rw (relation_between-narrowed_at m n words fact.i fact.j fact.rel calculus net p.pair p.within) (IsWithin-meet_r (relation_between m n words fact.i fact.j) fact.rel)) in
     let below : e < length a.seen = omega (arith, l, edge_between-lt n fact.i fact.j p.pair) in
     let seen = slice_set a.seen e (bit_and (slice_index a.seen e) x) in
     let seen_here : IsWithinFact m n seen fact =
-    IsWithin-trans _ _ _ (set_at-edge m n seen after fact.i fact.j (seen-edge a.seen e x below)) here in
+    IsWithin-trans _ _ _ (relation_between-edge m n seen after fact.i fact.j (seen-edge a.seen e x below)) here in
     record {
       live = refl;
       weight = refl;
       less = less;
-      sees = λ h. seen-keeps after a.seen e (AreWithin-trans after words a.seen less h);
+      sees = λ h. seen-keeps after a.seen e (Refines-trans after words a.seen less h);
       sight = seen-within a.seen e x;
       facts = λ xs h. All-left (IsWithinFact m n xs) a.mine (fact ∷ []) h;
       stated = λ h. All-push (IsWithinFact m n after) a.mine fact h here;
       seen_stated = λ h. All-push (IsWithinFact m n seen) a.mine fact h seen_here;
       kept = λ xs xs_net closed w seen facts.
-          subst (AreWithin xs) (sym eq) (met_at-keeps m n xs words fact.i fact.j fact.rel calculus xs_net w (All-last (IsWithinFact m n xs) a.mine fact facts));
+          subst (Refines xs) (sym eq) (narrowed_at-keeps m n xs words fact.i fact.j fact.rel calculus xs_net w (All-last (IsWithinFact m n xs) a.mine fact facts));
     }
 
 -- ---- a split
 
-split-facts : (m : Meaning) (s : CoreState) (xs : List ℕ) (k left : ℕ) (a : ActorState) → IsLiveAt s.actors k a →
+split-facts : (m : Algebra) (s : CoreState) (xs : List ℕ) (k left : ℕ) (a : ActorState) → IsLiveAt s.actors k a →
     EachLive (set s.actors k (giving left a) ++ fresh left a.seen ∷ []) (λ x. All (IsWithinFact m s.nodes xs) x.mine) →
     EachLive s.actors (λ x. All (IsWithinFact m s.nodes xs) x.mine)
 split-facts m s xs k left a l all j c t = elim (cases_eq j k) [
@@ -154,7 +154,7 @@ split-facts m s xs k left a l all j c t = elim (cases_eq j k) [
   })
 ]
 
-pub bound-split : (m : Meaning) (s : CoreState) (k left : ℕ) (a : ActorState) → Bound m s → IsLiveAt s.actors k a → 0 < left → left < a.weight →
+pub bound-split : (m : Algebra) (s : CoreState) (k left : ℕ) (a : ActorState) → Bound m s → IsLiveAt s.actors k a → 0 < left → left < a.weight →
     Bound m (record s { actors = set s.actors k (giving left a) ++ fresh left a.seen ∷ [] })
 bound-split m s k left a h l some less =
     let b = giving left a in
@@ -182,7 +182,7 @@ bound-split m s k left a h l some less =
 
 -- ---- a join
 
-join-facts : (m : Meaning) (s : CoreState) (xs : List ℕ) (k l : ℕ) (a b : ActorState) → k ≢ l → IsLiveAt s.actors k a → IsLiveAt s.actors l b →
+join-facts : (m : Algebra) (s : CoreState) (xs : List ℕ) (k l : ℕ) (a b : ActorState) → k ≢ l → IsLiveAt s.actors k a → IsLiveAt s.actors l b →
     EachLive (set (set s.actors k (joining a b)) l (spent b)) (λ x. All (IsWithinFact m s.nodes xs) x.mine) →
     EachLive s.actors (λ x. All (IsWithinFact m s.nodes xs) x.mine)
 join-facts m s xs k l a b d p q all j c t =
@@ -204,7 +204,7 @@ join-facts m s xs k l a b d p q all j c t =
       ]
     ]
 
-pub bound-join : (m : Meaning) (s : CoreState) (k l : ℕ) (a b : ActorState) → Bound m s → k ≢ l → IsLiveAt s.actors k a → IsLiveAt s.actors l b →
+pub bound-join : (m : Algebra) (s : CoreState) (k l : ℕ) (a b : ActorState) → Bound m s → k ≢ l → IsLiveAt s.actors k a → IsLiveAt s.actors l b →
     Bound m (record s { actors = set (set s.actors k (joining a b)) l (spent b) })
 bound-join m s k l a b h d p q =
     let n = s.nodes in
@@ -234,7 +234,7 @@ bound-join m s k l a b h d p q =
       seen_within = live-set actors l (spent b) (HasSeenWithin m n s.opening) (λ t. absurd (cc))
           (λ j x e t. live-set s.actors k (joining a b) (HasSeenWithin m n s.opening)
           (λ u. record {
-            opening = AreWithin-trans seen a.seen s.opening (met-within_l a.seen b.seen) a_seen.opening;
+            opening = Refines-trans seen a.seen s.opening (met-within_l a.seen b.seen) a_seen.opening;
             facts = All-append (IsWithinFact m n seen) a.mine b.mine
                 (facts-mono m n seen a.seen a.mine (met-within_l a.seen b.seen) a_seen.facts)
                 (facts-mono m n seen b.seen b.mine (met-within_r a.seen b.seen) b_seen.facts);
@@ -245,11 +245,11 @@ bound-join m s k l a b h d p q =
 
 -- ---- every event
 
-pub full-fact : (m : Meaning) (n full : ℕ) (fact : Fact) → full ≡ full_of m → IsProperFact n full fact → IsProperFact n (full_of m) fact
+pub full-fact : (m : Algebra) (n full : ℕ) (fact : Fact) → full ≡ full_of m → IsProperFact n full fact → IsProperFact n (full_of m) fact
 full-fact m n full fact e p = record { pair = p.pair; within = subst (IsWithin fact.rel) e p.within }
 
 -- every allowed event keeps the bound
-pub bound-step : (m : Meaning) (e : Event) (s t : CoreState) → IsCalculus m → s.full ≡ full_of m → IsCore s → IsAllowed s e → IsStep m e s t → Bound m s → Bound m t
+pub bound-step : (m : Algebra) (e : Event) (s t : CoreState) → IsCalculus m → s.full ≡ full_of m → IsCore s → IsAllowed s e → IsStep m e s t → Bound m s → Bound m t
 bound-step m (Assert k fact) s t calculus full core may step h =
     let a = step.actor in
     let e = edge_between s.nodes fact.i fact.j in
@@ -276,8 +276,8 @@ bound-step m (Join k l) s t calculus full core may step h =
     (live_here s k step.actor may.live step.is_there) (live_here s l step.other may.other_live step.other_there))
 
 -- the same for an event that is known to be another
-pub bound-step_at : (m : Meaning) (e d : Event) (s t : CoreState) → e ≡ d → IsCalculus m → s.full ≡ full_of m → IsCore s → IsAllowed s e → IsStep m d s t → Bound m s → Bound m t
+pub bound-step_at : (m : Algebra) (e d : Event) (s t : CoreState) → e ≡ d → IsCalculus m → s.full ≡ full_of m → IsCore s → IsAllowed s e → IsStep m d s t → Bound m s → Bound m t
 bound-step_at m e d s t same calculus full core may step = bound-step m d s t calculus full core (subst (IsAllowed s) same may) step
 
-pub step_at : (m : Meaning) (e d : Event) (s t : CoreState) → e ≡ d → IsStep m d s t → IsStep m e s t
+pub step_at : (m : Algebra) (e d : Event) (s t : CoreState) → e ≡ d → IsStep m d s t → IsStep m e s t
 step_at m e d s t same step = subst (λ (x : Event). IsStep m x s t) (sym same) step

@@ -5,12 +5,12 @@ use Rattle.std.specs.List.{sum_by}
 use Rattle.std.proofs.lemmas.List.Elements.{All-append, All-push, All-nil}
 use Rattle.std.proofs.lemmas.List.Sums.{sum_by-set, sum_by-append}
 use Rattle.std.proofs.lemmas.Option.{slice_get_within, get_or_from_slice_get}
-use Rattle.calculus_table.specs.Meaning.{Meaning}
+use Rattle.calculus_table.specs.Algebra.{Algebra}
 use Rattle.calculus_table.specs.Composition.{composition}
 use Rattle.network_words.specs.declared.fact.Fact.{Fact}
 use Rattle.network_words.specs.Edge.{edge_between}
-use Rattle.network_words.specs.Network.{AreWithin, set_at}
-use Rattle.network_words.proofs.Networks.{AreWithin-refl, length-met_at, met_at-within}
+use Rattle.network_words.specs.Network.{Refines, relation_between}
+use Rattle.network_words.proofs.Networks.{Refines-refl, length-narrowed_at, narrowed_at-within}
 use Rattle.narrow_core.specs.declared.event.Event.{Event}
 use Rattle.narrow_core.specs.declared.event.Event.TheVariants.{Assert, Read, Narrow, Split, Join}
 use Rattle.narrow_core.specs.Actor.{ActorState, IsLiveAt, EachLive, live_weight, fresh, seeing, stating, giving, joining, spent}
@@ -148,7 +148,7 @@ proper-spent n full a p = record { seen = p.seen; facts = p.facts }
 -- ---- every machine
 
 -- one actor with its weight and some words were changed
-core-moved : (s : CoreState) (words : List ℕ) (k : ℕ) (a b : ActorState) → IsCore s → slice_get s.actors k ≡ Some a → length words ≡ length s.words → AreWithin words s.words →
+core-moved : (s : CoreState) (words : List ℕ) (k : ℕ) (a b : ActorState) → IsCore s → slice_get s.actors k ≡ Some a → length words ≡ length s.words → Refines words s.words →
     IsProperActor s.nodes s.full b → b.is_live ≡ a.is_live → b.weight ≡ a.weight → IsCore (record s { words = words; actors = set s.actors k b })
 core-moved s words k a b h e l w p live weight = record {
   opening = h.opening;
@@ -157,14 +157,14 @@ core-moved s words k a b h e l w p live weight = record {
   weights = weights-same s.opening_weight s.actors k a b e live weight h.weights;
 }
 
-pub core-asserts : (m : Meaning) (k : ℕ) (fact : Fact) (s t : CoreState) → IsCore s → MayAssert s k fact → Asserts m k fact s t → IsCore t
+pub core-asserts : (m : Algebra) (k : ℕ) (fact : Fact) (s t : CoreState) → IsCore s → MayAssert s k fact → Asserts m k fact s t → IsCore t
 core-asserts m k fact s t h may step =
     let a = step.actor in
     let words = step.words in
     let e = edge_between s.nodes fact.i fact.j in
     let p : IsProperActor s.nodes s.full a = h.actors k a step.is_there in
-    let l : length words ≡ length s.words = ap length step.words_is ∙ length-met_at m s.nodes s.words fact.i fact.j fact.rel in
-    let w : AreWithin words s.words = subst (λ (x : List ℕ). AreWithin x s.words) (sym step.words_is) (met_at-within m s.nodes s.words fact.i fact.j fact.rel) in
+    let l : length words ≡ length s.words = ap length step.words_is ∙ length-narrowed_at m s.nodes s.words fact.i fact.j fact.rel in
+    let w : Refines words s.words = subst (λ (x : List ℕ). Refines x s.words) (sym step.words_is) (narrowed_at-within m s.nodes s.words fact.i fact.j fact.rel) in
     subst IsCore (sym step.after) (core-moved s words k a (seeing e (slice_index words e) (stating fact a)) h step.is_there l w
     (proper-seeing s.nodes s.full e (slice_index words e) (stating fact a) (proper-stating s.nodes s.full fact a p may.proper)) refl refl)
 
@@ -172,18 +172,18 @@ pub core-reads : (k e : ℕ) (s t : CoreState) → IsCore s → Reads k e s t �
 core-reads k e s t h step =
     let a = step.actor in
     let p : IsProperActor s.nodes s.full a = h.actors k a step.is_there in
-    subst IsCore (sym step.after) (core-moved s s.words k a (seeing e (slice_index s.words e) a) h step.is_there refl (AreWithin-refl s.words)
+    subst IsCore (sym step.after) (core-moved s s.words k a (seeing e (slice_index s.words e) a) h step.is_there refl (Refines-refl s.words)
     (proper-seeing s.nodes s.full e (slice_index s.words e) a p) refl refl)
 
-pub core-narrows : (m : Meaning) (k i j l : ℕ) (s t : CoreState) → IsCore s → Narrows m k i j l s t → IsCore t
+pub core-narrows : (m : Algebra) (k i j l : ℕ) (s t : CoreState) → IsCore s → Narrows m k i j l s t → IsCore t
 core-narrows m k i j l s t h step =
     let a = step.actor in
     let words = step.words in
     let e = edge_between s.nodes i l in
-    let x = composition m (set_at m s.nodes a.seen i j) (set_at m s.nodes a.seen j l) in
+    let x = composition m (relation_between m s.nodes a.seen i j) (relation_between m s.nodes a.seen j l) in
     let p : IsProperActor s.nodes s.full a = h.actors k a step.is_there in
-    let q : length words ≡ length s.words = ap length step.words_is ∙ length-met_at m s.nodes s.words i l x in
-    let w : AreWithin words s.words = subst (λ (y : List ℕ). AreWithin y s.words) (sym step.words_is) (met_at-within m s.nodes s.words i l x) in
+    let q : length words ≡ length s.words = ap length step.words_is ∙ length-narrowed_at m s.nodes s.words i l x in
+    let w : Refines words s.words = subst (λ (y : List ℕ). Refines y s.words) (sym step.words_is) (narrowed_at-within m s.nodes s.words i l x) in
     subst IsCore (sym step.after) (core-moved s words k a (seeing e (slice_index words e) a) h step.is_there q w
     (proper-seeing s.nodes s.full e (slice_index words e) a p) refl refl)
 
@@ -221,7 +221,7 @@ core-joins k l s t h may step =
     })
 
 -- every allowed event keeps it
-pub core-step : (m : Meaning) (e : Event) (s t : CoreState) → IsCore s → IsAllowed s e → IsStep m e s t → IsCore t
+pub core-step : (m : Algebra) (e : Event) (s t : CoreState) → IsCore s → IsAllowed s e → IsStep m e s t → IsCore t
 core-step m (Assert k fact) s t h may step = core-asserts m k fact s t h may step
 core-step m (Read k e) s t h may step = core-reads k e s t h step
 core-step m (Narrow k i j l) s t h may step = core-narrows m k i j l s t h step

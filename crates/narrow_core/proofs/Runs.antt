@@ -5,16 +5,16 @@ use Rattle.std.specs.List.{All}
 use Rattle.std.proofs.lemmas.Bool.{cases_eq}
 use Rattle.std.proofs.lemmas.List.Elements.{All-nil, All-cons, All-head, All-tail, All-weaker}
 use Rattle.calculus_table.specs.Rel.{IsWithin}
-use Rattle.calculus_table.specs.Meaning.{Meaning}
+use Rattle.calculus_table.specs.Algebra.{Algebra}
 use Rattle.calculus_table.specs.Composition.{full_of}
 use Rattle.calculus_table.specs.Calculus.{IsCalculus}
 use Rattle.calculus_table.proofs.Sets.{IsWithin-trans, IsWithin-meet_r}
 use Rattle.network_words.specs.declared.fact.Fact.{Fact}
-use Rattle.network_words.specs.Network.{Network, AreWithin, IsNetwork, met_at, set_at}
-use Rattle.network_words.specs.Facts.{met_with}
+use Rattle.network_words.specs.Network.{Network, Refines, IsNetwork, narrowed_at, relation_between}
+use Rattle.network_words.specs.Facts.{narrowed_by}
 use Rattle.network_words.specs.Closure.{IsClosure}
-use Rattle.network_words.proofs.Networks.{AreWithin-refl, AreWithin-trans, length-met_at, met_at-within, met_at-keeps, set_at-mono, set_at-met_at, IsClosure-between}
-use Rattle.network_words.proofs.Meets.{length-met_with, met_with-within}
+use Rattle.network_words.proofs.Networks.{Refines-refl, Refines-trans, length-narrowed_at, narrowed_at-within, narrowed_at-keeps, relation_between-mono, relation_between-narrowed_at, IsClosure-between}
+use Rattle.network_words.proofs.Meets.{length-narrowed_by, narrowed_by-within}
 use Rattle.narrow_core.specs.declared.event.Event.{Event}
 use Rattle.narrow_core.specs.declared.event.Event.TheVariants.{Assert, Read, Narrow, Split, Join}
 use Rattle.narrow_core.specs.Actor.{ActorState, IsLiveAt, fresh}
@@ -34,7 +34,7 @@ same-after : (s t u : CoreState) → t ≡ u → SameOpening s u → SameOpening
 same-after s t u e h = subst (SameOpening s) (sym e) h
 
 -- every event leaves the opening as it was
-pub step-stays : (m : Meaning) (e : Event) (s t : CoreState) → IsStep m e s t → SameOpening s t
+pub step-stays : (m : Algebra) (e : Event) (s t : CoreState) → IsStep m e s t → SameOpening s t
 step-stays m (Assert k fact) s t step = same-after s t _ step.after (record { nodes = refl; full = refl; opening = refl; opening_weight = refl })
 step-stays m (Read k e) s t step = same-after s t _ step.after (record { nodes = refl; full = refl; opening = refl; opening_weight = refl })
 step-stays m (Narrow k i j l) s t step = same-after s t _ step.after (record { nodes = refl; full = refl; opening = refl; opening_weight = refl })
@@ -52,18 +52,18 @@ same-trans s t u p q = record {
 -- ---- runs
 
 -- a run goes on by one step
-pub run-more : (m : Meaning) (events : List Event) (e : Event) (s t u : CoreState) → IsRun m events s t → IsAllowed t e → IsStep m e t u → IsRun m (events ++ e ∷ []) s u
+pub run-more : (m : Algebra) (events : List Event) (e : Event) (s t u : CoreState) → IsRun m events s t → IsAllowed t e → IsStep m e t u → IsRun m (events ++ e ∷ []) s u
 run-more m [] e s t u run may step = (u, subst (λ (x : CoreState). IsAllowed x e) run may, subst (λ (x : CoreState). IsStep m e x u) run step, refl)
 run-more m (d ∷ events) e s t u run may step = (run.0, run.1, run.2, run-more m events e run.0 t u run.3 may step)
 
 -- what a run keeps
-pub record Keeps (m : Meaning) (s t : CoreState) : Type 0 where
+pub record Keeps (m : Algebra) (s t : CoreState) : Type 0 where
   pub core : IsCore t
   pub full : t.full ≡ full_of m
   pub bound : Bound m t
   pub same : SameOpening s t
 
-pub run-keeps : (m : Meaning) (events : List Event) (s t : CoreState) → IsCalculus m → s.full ≡ full_of m → IsCore s → Bound m s → IsRun m events s t → Keeps m s t
+pub run-keeps : (m : Algebra) (events : List Event) (s t : CoreState) → IsCalculus m → s.full ≡ full_of m → IsCore s → Bound m s → IsRun m events s t → Keeps m s t
 run-keeps m [] s t calculus full core bound run =
     subst (Keeps m s) (sym run) (record { core = core; full = full; bound = bound; same = record { nodes = refl; full = refl; opening = refl; opening_weight = refl } })
 run-keeps m (e ∷ events) s t calculus full core bound run =
@@ -97,18 +97,18 @@ opened-core net weight some sets = record {
   };
 }
 
-pub opened-bound : (m : Meaning) (net : Network) (weight : ℕ) → 0 < weight → Bound m (opened net weight)
+pub opened-bound : (m : Algebra) (net : Network) (weight : ℕ) → 0 < weight → Bound m (opened net weight)
 opened-bound m net weight some =
     let a = fresh weight net.words in
     record {
       nothing_lost = λ xs cand. cand.opening;
       words_within = record {
-        opening = AreWithin-refl net.words;
+        opening = Refines-refl net.words;
         actors = λ k b l. each-first a (IsWithinActor m net.nodes net.words)
-            (record { seen = AreWithin-refl net.words; facts = All-nil (IsWithinFact m net.nodes net.words) }) k b l.is_there;
+            (record { seen = Refines-refl net.words; facts = All-nil (IsWithinFact m net.nodes net.words) }) k b l.is_there;
       };
       seen_within = λ k b l. each-first a (HasSeenWithin m net.nodes net.words)
-          (record { opening = AreWithin-refl net.words; facts = All-nil (IsWithinFact m net.nodes net.words) }) k b l.is_there;
+          (record { opening = Refines-refl net.words; facts = All-nil (IsWithinFact m net.nodes net.words) }) k b l.is_there;
       weights = record {
         some = λ k b l. each-first a (λ x. 0 < x.weight) some k b l.is_there;
         sum = omega arith;
@@ -118,34 +118,34 @@ opened-bound m net weight some =
 -- ---- an actor alone
 
 -- a network within the words and each fact is within the words met with the facts
-met_with-keeps : (m : Meaning) (n : ℕ) (xs words : List ℕ) (facts : List Fact) → IsCalculus m → IsNetwork m n xs → AreWithin xs words → All (IsWithinFact m n xs) facts →
-    AreWithin xs (met_with m n words facts)
-met_with-keeps m n xs words [] calculus net w h = w
-met_with-keeps m n xs words (f ∷ facts) calculus net w h =
-    met_with-keeps m n xs (met_at m n words f.i f.j f.rel) facts calculus net
-    (met_at-keeps m n xs words f.i f.j f.rel calculus net w (All-head (IsWithinFact m n xs) f facts h)) (All-tail (IsWithinFact m n xs) f facts h)
+narrowed_by-keeps : (m : Algebra) (n : ℕ) (xs words : List ℕ) (facts : List Fact) → IsCalculus m → IsNetwork m n xs → Refines xs words → All (IsWithinFact m n xs) facts →
+    Refines xs (narrowed_by m n words facts)
+narrowed_by-keeps m n xs words [] calculus net w h = w
+narrowed_by-keeps m n xs words (f ∷ facts) calculus net w h =
+    narrowed_by-keeps m n xs (narrowed_at m n words f.i f.j f.rel) facts calculus net
+    (narrowed_at-keeps m n xs words f.i f.j f.rel calculus net w (All-head (IsWithinFact m n xs) f facts h)) (All-tail (IsWithinFact m n xs) f facts h)
 
-met_at-network : (m : Meaning) (n : ℕ) (words : List ℕ) (i j x : ℕ) → IsNetwork m n words → IsNetwork m n (met_at m n words i j x)
-met_at-network m n words i j x net = record {
-  length_is = length-met_at m n words i j x ∙ net.length_is;
-  within = λ e. IsWithin-trans _ _ _ ((met_at-within m n words i j x).each e) (net.within e);
+narrowed_at-network : (m : Algebra) (n : ℕ) (words : List ℕ) (i j x : ℕ) → IsNetwork m n words → IsNetwork m n (narrowed_at m n words i j x)
+narrowed_at-network m n words i j x net = record {
+  length_is = length-narrowed_at m n words i j x ∙ net.length_is;
+  within = λ e. IsWithin-trans _ _ _ ((narrowed_at-within m n words i j x).each e) (net.within e);
 }
 
 -- the words met with the facts are within each of them
-met_with-facts : (m : Meaning) (n : ℕ) (words : List ℕ) (facts : List Fact) → IsCalculus m → IsNetwork m n words → All (IsProperFact n (full_of m)) facts →
-    All (IsWithinFact m n (met_with m n words facts)) facts
-met_with-facts m n words [] calculus net p = All-nil (IsWithinFact m n words)
-met_with-facts m n words (f ∷ facts) calculus net p =
-    let next = met_at m n words f.i f.j f.rel in
-    let met = met_with m n next facts in
+narrowed_by-facts : (m : Algebra) (n : ℕ) (words : List ℕ) (facts : List Fact) → IsCalculus m → IsNetwork m n words → All (IsProperFact n (full_of m)) facts →
+    All (IsWithinFact m n (narrowed_by m n words facts)) facts
+narrowed_by-facts m n words [] calculus net p = All-nil (IsWithinFact m n words)
+narrowed_by-facts m n words (f ∷ facts) calculus net p =
+    let next = narrowed_at m n words f.i f.j f.rel in
+    let met = narrowed_by m n next facts in
     let proper : IsProperFact n (full_of m) f = All-head (IsProperFact n (full_of m)) f facts p in
-    let here : IsWithin (set_at m n next f.i f.j) f.rel =
-    rw (set_at-met_at m n words f.i f.j f.rel calculus net proper.pair proper.within) (IsWithin-meet_r (set_at m n words f.i f.j) f.rel) in
+    let here : IsWithin (relation_between m n next f.i f.j) f.rel =
+    rw (relation_between-narrowed_at m n words f.i f.j f.rel calculus net proper.pair proper.within) (IsWithin-meet_r (relation_between m n words f.i f.j) f.rel) in
     All-cons (IsWithinFact m n met) f facts
-    (IsWithin-trans _ _ _ (set_at-mono m n met next f.i f.j (met_with-within m n next facts)) here)
-    (met_with-facts m n next facts calculus (met_at-network m n words f.i f.j f.rel net) (All-tail (IsProperFact n (full_of m)) f facts p))
+    (IsWithin-trans _ _ _ (relation_between-mono m n met next f.i f.j (narrowed_by-within m n next facts)) here)
+    (narrowed_by-facts m n next facts calculus (narrowed_at-network m n words f.i f.j f.rel net) (All-tail (IsProperFact n (full_of m)) f facts p))
 
-full-facts : (m : Meaning) (n full : ℕ) (facts : List Fact) → full ≡ full_of m → All (IsProperFact n full) facts → All (IsProperFact n (full_of m)) facts
+full-facts : (m : Algebra) (n full : ℕ) (facts : List Fact) → full ≡ full_of m → All (IsProperFact n full) facts → All (IsProperFact n (full_of m)) facts
 full-facts m n full facts e = All-weaker (IsProperFact n full) (IsProperFact n (full_of m)) (λ f. full-fact m n full f e) facts
 
 alone-only : (s : CoreState) (k l : ℕ) (a b : ActorState) → IsCore s → IsLiveAt s.actors k a → a.weight ≡ s.opening_weight → IsLiveAt s.actors l b → l ≡ k
@@ -155,17 +155,17 @@ alone-only s k l a b core p whole q = elim (cases_eq l k) [
 ]
 
 -- an actor with the whole weight is alone
-pub alone : (m : Meaning) (s : CoreState) (k : ℕ) (a : ActorState) → IsCalculus m → s.full ≡ full_of m → IsCore s → Bound m s → IsLiveAt s.actors k a → a.weight ≡ s.opening_weight → IsAlone m s k a
+pub alone : (m : Algebra) (s : CoreState) (k : ℕ) (a : ActorState) → IsCalculus m → s.full ≡ full_of m → IsCore s → Bound m s → IsLiveAt s.actors k a → a.weight ≡ s.opening_weight → IsAlone m s k a
 alone m s k a calculus full core bound live whole =
     let n = s.nodes in
-    let met = met_with m n s.opening a.mine in
+    let met = narrowed_by m n s.opening a.mine in
     let net : IsNetwork m n s.words = AreSets-network m n s.full s.words full core.words in
     let opening : IsNetwork m n s.opening = AreSets-network m n s.full s.opening full core.opening in
     let proper = full-facts m n s.full a.mine full (core.actors k a live.is_there).facts in
-    let upper : AreWithin s.words met = met_with-keeps m n s.words s.opening a.mine calculus net bound.words_within.opening (bound.words_within.actors k a live).facts in
-    let size : length met ≡ length s.opening = length-met_with m n s.opening a.mine in
-    let lower : (c : List ℕ) → IsClosure m n met c → AreWithin c s.words = λ c closure.
-    let in_opening : AreWithin c s.opening = AreWithin-trans c met s.opening closure.within (met_with-within m n s.opening a.mine) in
+    let upper : Refines s.words met = narrowed_by-keeps m n s.words s.opening a.mine calculus net bound.words_within.opening (bound.words_within.actors k a live).facts in
+    let size : length met ≡ length s.opening = length-narrowed_by m n s.opening a.mine in
+    let lower : (c : List ℕ) → IsClosure m n met c → Refines c s.words = λ c closure.
+    let in_opening : Refines c s.opening = Refines-trans c met s.opening closure.within (narrowed_by-within m n s.opening a.mine) in
     bound.nothing_lost c (record {
       network = record { length_is = closure.length_is ∙ size ∙ opening.length_is; within = λ e. IsWithin-trans _ _ _ (in_opening.each e) (opening.within e) };
       closed = closure.closed;
@@ -173,7 +173,7 @@ alone m s k a calculus full core bound live whole =
       facts = λ l b t.
           let here : k ≡ l = sym (alone-only s k l a b core live whole t) in
           let e : a ≡ b = same_actor s.actors l a b (subst (λ (i : ℕ). slice_get s.actors i ≡ Some a) here live.is_there) t.is_there in
-          subst (λ (x : ActorState). All (IsWithinFact m n c) x.mine) e (facts-mono m n c met a.mine closure.within (met_with-facts m n s.opening a.mine calculus opening proper));
+          subst (λ (x : ActorState). All (IsWithinFact m n c) x.mine) e (facts-mono m n c met a.mine closure.within (narrowed_by-facts m n s.opening a.mine calculus opening proper));
     }) in
     record {
       only = λ l b t. alone-only s k l a b core live whole t;
@@ -184,7 +184,7 @@ alone m s k a calculus full core bound live whole =
 
 -- ---- schedules
 
-pub schedule-keeps : (m : Meaning) (net : Network) (weight : ℕ) (events : List Event) (s : CoreState) → IsSchedule m net weight events s → Keeps m (opened net weight) s
+pub schedule-keeps : (m : Algebra) (net : Network) (weight : ℕ) (events : List Event) (s : CoreState) → IsSchedule m net weight events s → Keeps m (opened net weight) s
 schedule-keeps m net weight events s h =
     let sets : AreSets net.nodes net.full net.words = record { length_is = h.network.length_is; within = λ e. subst (IsWithin (slice_index net.words e)) (sym h.full) (h.network.within e) } in
     run-keeps m events (opened net weight) s h.calculus h.full (opened-core net weight h.some sets) (opened-bound m net weight h.some) h.run

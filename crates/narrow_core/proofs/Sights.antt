@@ -6,23 +6,23 @@ use Rattle.std.proofs.lemmas.Bool.{cases_lt}
 use Rattle.std.proofs.lemmas.List.{length-set, get_or-set_same}
 use Rattle.std.proofs.lemmas.List.Elements.{All-weaker}
 use Rattle.calculus_table.specs.Rel.{IsWithin}
-use Rattle.calculus_table.specs.Meaning.{Meaning}
+use Rattle.calculus_table.specs.Algebra.{Algebra}
 use Rattle.calculus_table.specs.Composition.{full_of}
 use Rattle.calculus_table.proofs.Sets.{IsWithin-refl, IsWithin-trans, IsWithin-meet, IsWithin-meet_l, IsWithin-meet_r, IsWithin-empty}
 use Rattle.calculus_table.proofs.Compositions.{converse-mono}
 use Rattle.network_words.specs.declared.fact.Fact.{Fact}
 use Rattle.network_words.specs.Edge.{edge_count, IsProperPair, edge_between}
-use Rattle.network_words.specs.Network.{IsNetwork, AreWithin, set_at}
+use Rattle.network_words.specs.Network.{IsNetwork, Refines, relation_between}
 use Rattle.network_words.proofs.Edges.{edge_at-lt, edge_between-straight, edge_between-turned}
-use Rattle.network_words.proofs.Networks.{set-cases, set_at-mono, set_at-straight, set_at-turned}
+use Rattle.network_words.proofs.Networks.{set-cases, relation_between-mono, relation_between-straight, relation_between-turned}
 use Rattle.narrow_core.specs.Actor.{met_words}
 use Rattle.narrow_core.specs.Machine.{AreSets}
 use Rattle.narrow_core.specs.Bound.{IsWithinFact}
 
 -- ---- facts
 
-pub facts-mono : (m : Meaning) (n : ℕ) (xs ys : List ℕ) (facts : List Fact) → AreWithin xs ys → All (IsWithinFact m n ys) facts → All (IsWithinFact m n xs) facts
-facts-mono m n xs ys facts w = All-weaker (IsWithinFact m n ys) (IsWithinFact m n xs) (λ f h. IsWithin-trans _ _ _ (set_at-mono m n xs ys f.i f.j w) h) facts
+pub facts-mono : (m : Algebra) (n : ℕ) (xs ys : List ℕ) (facts : List Fact) → Refines xs ys → All (IsWithinFact m n ys) facts → All (IsWithinFact m n xs) facts
+facts-mono m n xs ys facts w = All-weaker (IsWithinFact m n ys) (IsWithinFact m n xs) (λ f h. IsWithin-trans _ _ _ (relation_between-mono m n xs ys f.i f.j w) h) facts
 
 -- ---- the edge between two nodes
 
@@ -35,11 +35,11 @@ edge_between-lt n i j p = elim (cases_lt i j) [
 ]
 
 -- where the words of the edge between two nodes are within one another, so are the sets of the pair
-pub set_at-edge : (m : Meaning) (n : ℕ) (xs ys : List ℕ) (i j : ℕ) →
-    IsWithin (slice_index xs (edge_between n i j)) (slice_index ys (edge_between n i j)) → IsWithin (set_at m n xs i j) (set_at m n ys i j)
-set_at-edge m n xs ys i j w = elim (cases_lt i j) [
-  | inl o ↦ rw (set_at-straight m n xs i j o, set_at-straight m n ys i j o) (rw (edge_between-straight n i j o) at w)
-  | inr o ↦ rw (set_at-turned m n xs i j o, set_at-turned m n ys i j o) (converse-mono m _ _ (rw (edge_between-turned n i j o) at w))
+pub relation_between-edge : (m : Algebra) (n : ℕ) (xs ys : List ℕ) (i j : ℕ) →
+    IsWithin (slice_index xs (edge_between n i j)) (slice_index ys (edge_between n i j)) → IsWithin (relation_between m n xs i j) (relation_between m n ys i j)
+relation_between-edge m n xs ys i j w = elim (cases_lt i j) [
+  | inl o ↦ rw (relation_between-straight m n xs i j o, relation_between-straight m n ys i j o) (rw (edge_between-straight n i j o) at w)
+  | inr o ↦ rw (relation_between-turned m n xs i j o, relation_between-turned m n ys i j o) (converse-mono m _ _ (rw (edge_between-turned n i j o) at w))
 ]
 
 -- ---- one edge seen
@@ -47,7 +47,7 @@ set_at-edge m n xs ys i j w = elim (cases_lt i j) [
 pub length-seen : (seen : List ℕ) (e x : ℕ) → length (slice_set seen e (bit_and (slice_index seen e) x)) ≡ length seen
 length-seen seen e x = length-set seen e (bit_and (slice_index seen e) x)
 
-pub seen-within : (seen : List ℕ) (e x : ℕ) → AreWithin (slice_set seen e (bit_and (slice_index seen e) x)) seen
+pub seen-within : (seen : List ℕ) (e x : ℕ) → Refines (slice_set seen e (bit_and (slice_index seen e) x)) seen
 seen-within seen e x = record {
   each = λ d. elim (set-cases seen e (bit_and (slice_index seen e) x) d) [
     | inl same ↦ rw same (IsWithin-refl _)
@@ -56,7 +56,7 @@ seen-within seen e x = record {
 }
 
 -- words within what was seen stay within, after their own edge is seen
-pub seen-keeps : (words seen : List ℕ) (e : ℕ) → AreWithin words seen → AreWithin words (slice_set seen e (bit_and (slice_index seen e) (slice_index words e)))
+pub seen-keeps : (words seen : List ℕ) (e : ℕ) → Refines words seen → Refines words (slice_set seen e (bit_and (slice_index seen e) (slice_index words e)))
 seen-keeps words seen e w = record {
   each = λ d. elim (set-cases seen e (bit_and (slice_index seen e) (slice_index words e)) d) [
     | inl same ↦ rw same (w.each d)
@@ -93,19 +93,19 @@ met-each (x ∷ xs) [] e a p q = q
 met-each (x ∷ xs) (y ∷ ys) zero a p q = IsWithin-meet a x y p q
 met-each (x ∷ xs) (y ∷ ys) (suc e) a p q = met-each xs ys e a p q
 
-pub met-within_l : (xs ys : List ℕ) → AreWithin (met_words xs ys) xs
+pub met-within_l : (xs ys : List ℕ) → Refines (met_words xs ys) xs
 met-within_l xs ys = record { each = met-each_l xs ys }
 
-pub met-within_r : (xs ys : List ℕ) → AreWithin (met_words xs ys) ys
+pub met-within_r : (xs ys : List ℕ) → Refines (met_words xs ys) ys
 met-within_r xs ys = record { each = met-each_r xs ys }
 
-pub met-keeps : (words xs ys : List ℕ) → AreWithin words xs → AreWithin words ys → AreWithin words (met_words xs ys)
+pub met-keeps : (words xs ys : List ℕ) → Refines words xs → Refines words ys → Refines words (met_words xs ys)
 met-keeps words xs ys p q = record { each = λ e. met-each xs ys e (slice_index words e) (p.each e) (q.each e) }
 
 -- ---- sets for each edge
 
-pub AreSets-less : (n full : ℕ) (xs ys : List ℕ) → AreSets n full xs → length ys ≡ length xs → AreWithin ys xs → AreSets n full ys
+pub AreSets-less : (n full : ℕ) (xs ys : List ℕ) → AreSets n full xs → length ys ≡ length xs → Refines ys xs → AreSets n full ys
 AreSets-less n full xs ys s l w = record { length_is = l ∙ s.length_is; within = λ e. IsWithin-trans _ _ _ (w.each e) (s.within e) }
 
-pub AreSets-network : (m : Meaning) (n full : ℕ) (xs : List ℕ) → full ≡ full_of m → AreSets n full xs → IsNetwork m n xs
+pub AreSets-network : (m : Algebra) (n full : ℕ) (xs : List ℕ) → full ≡ full_of m → AreSets n full xs → IsNetwork m n xs
 AreSets-network m n full xs e s = record { length_is = s.length_is; within = λ k. subst (IsWithin (slice_index xs k)) e (s.within k) }

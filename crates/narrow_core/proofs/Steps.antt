@@ -3,11 +3,11 @@ use Rattle.std.proofs.Common.{◌≡◌, ◌≢◌, ℕ, ◌<◌, List, [], ◌�
 use Rattle.std.specs.Prelude.{slice_get, slice_index}
 use Rattle.std.proofs.lemmas.List.{set-append_left}
 use Rattle.std.proofs.lemmas.Option.{slice_get_read, slice_get_within}
-use Rattle.calculus_table.specs.Meaning.{Meaning}
+use Rattle.calculus_table.specs.Algebra.{Algebra}
 use Rattle.calculus_table.specs.Composition.{composition}
 use Rattle.network_words.specs.declared.fact.Fact.{Fact}
 use Rattle.network_words.specs.Edge.{edge_between}
-use Rattle.network_words.specs.Network.{Network, met_at, set_at}
+use Rattle.network_words.specs.Network.{Network, narrowed_at, relation_between}
 use Rattle.narrow_core.specs.Actor.{ActorState, fresh, seeing, stating, giving, joining, spent}
 use Rattle.narrow_core.specs.Machine.{CoreState}
 use Rattle.narrow_core.specs.Event.{Asserts, Reads, Narrows, Splits, Joins}
@@ -43,8 +43,8 @@ reads net opening weight actors k e x a b h r p q = record {
 }
 
 -- after the words were met, and the actor has seen the edge
-met-after : (m : Meaning) (net after : Network) (opening : List ℕ) (weight : ℕ) (actors : List ActorState) (k i j e f x w : ℕ) (a b : ActorState) →
-    after ≡ record net { words = met_at m net.nodes net.words i j x } → e ≡ f → w ≡ slice_index after.words e → b ≡ seeing e w a →
+met-after : (m : Algebra) (net after : Network) (opening : List ℕ) (weight : ℕ) (actors : List ActorState) (k i j e f x w : ℕ) (a b : ActorState) →
+    after ≡ record net { words = narrowed_at m net.nodes net.words i j x } → e ≡ f → w ≡ slice_index after.words e → b ≡ seeing e w a →
     state_of after opening weight (set actors k b) ≡
     record (state_of net opening weight actors) { words = after.words; actors = set actors k (seeing f (slice_index after.words f) a) }
 met-after m net after opening weight actors k i j e f x w a b p q r s =
@@ -53,24 +53,24 @@ met-after m net after opening weight actors k i j e f x w a b p q r s =
     let full : after.full ≡ net.full = ap (λ (y : Network). y.full) p in
     cc
 
-pub narrows : (m : Meaning) (net after : Network) (opening : List ℕ) (weight : ℕ) (actors : List ActorState) (k h i j e first second x w : ℕ) (a b : ActorState) →
+pub narrows : (m : Algebra) (net after : Network) (opening : List ℕ) (weight : ℕ) (actors : List ActorState) (k h i j e first second x w : ℕ) (a b : ActorState) →
     k < length actors → a ≡ get_or actors k a →
-    first ≡ set_at m net.nodes a.seen h i → second ≡ set_at m net.nodes a.seen i j → x ≡ composition m first second →
-    after ≡ record net { words = met_at m net.nodes net.words h j x } → e ≡ edge_between net.nodes h j → w ≡ slice_index after.words e → b ≡ seeing e w a →
+    first ≡ relation_between m net.nodes a.seen h i → second ≡ relation_between m net.nodes a.seen i j → x ≡ composition m first second →
+    after ≡ record net { words = narrowed_at m net.nodes net.words h j x } → e ≡ edge_between net.nodes h j → w ≡ slice_index after.words e → b ≡ seeing e w a →
     Narrows m k h i j (state_of net opening weight actors) (state_of after opening weight (set actors k b))
 narrows m net after opening weight actors k h i j e first second x w a b below r p q o n f g s = record {
   actor = a;
   is_there = there actors k a below r;
   words = after.words;
   words_is =
-      let all : x ≡ composition m (set_at m net.nodes a.seen h i) (set_at m net.nodes a.seen i j) = o ∙ ap (λ (y : ℕ). composition m y second) p ∙ ap (composition m (set_at m net.nodes a.seen h i)) q in
-      ap (λ (y : Network). y.words) n ∙ ap (met_at m net.nodes net.words h j) all;
+      let all : x ≡ composition m (relation_between m net.nodes a.seen h i) (relation_between m net.nodes a.seen i j) = o ∙ ap (λ (y : ℕ). composition m y second) p ∙ ap (composition m (relation_between m net.nodes a.seen h i)) q in
+      ap (λ (y : Network). y.words) n ∙ ap (narrowed_at m net.nodes net.words h j) all;
   after = met-after m net after opening weight actors k h j e (edge_between net.nodes h j) x w a b n f g s;
 }
 
-pub asserts : (m : Meaning) (net after : Network) (opening : List ℕ) (weight : ℕ) (actors : List ActorState) (k e w : ℕ) (fact : Fact) (a b c : ActorState) →
+pub asserts : (m : Algebra) (net after : Network) (opening : List ℕ) (weight : ℕ) (actors : List ActorState) (k e w : ℕ) (fact : Fact) (a b c : ActorState) →
     k < length actors → a ≡ get_or actors k a → b ≡ stating fact a →
-    after ≡ record net { words = met_at m net.nodes net.words fact.i fact.j fact.rel } → e ≡ edge_between net.nodes fact.i fact.j → w ≡ slice_index after.words e →
+    after ≡ record net { words = narrowed_at m net.nodes net.words fact.i fact.j fact.rel } → e ≡ edge_between net.nodes fact.i fact.j → w ≡ slice_index after.words e →
     c ≡ seeing e w b →
     Asserts m k fact (state_of net opening weight actors) (state_of after opening weight (set actors k c))
 asserts m net after opening weight actors k e w fact a b c below r o n f g s = record {

@@ -2,47 +2,47 @@
 use Rattle.std.specs.Prelude.{◌≡◌, ℕ, List}
 use Rattle.std.specs.List.{All}
 use Rattle.calculus_table.specs.Rel.{IsWithin}
-use Rattle.calculus_table.specs.Meaning.{Meaning}
+use Rattle.calculus_table.specs.Algebra.{Algebra}
 use Rattle.network_words.specs.declared.fact.Fact.{Fact}
-use Rattle.network_words.specs.Network.{IsNetwork, AreWithin, set_at}
-use Rattle.network_words.specs.Facts.{met_with}
+use Rattle.network_words.specs.Network.{IsNetwork, Refines, relation_between}
+use Rattle.network_words.specs.Facts.{narrowed_by}
 use Rattle.network_words.specs.Closure.{IsClosed, IsClosure}
 use Rattle.narrow_core.specs.Actor.{ActorState, IsLiveAt, EachLive}
 use Rattle.narrow_core.specs.Machine.{CoreState, AreWeighed}
 
 -- the set of the fact's pair is within the fact's set
-abbrev pub IsWithinFact : Meaning → ℕ → List ℕ → Fact → Type 0
-IsWithinFact m n words fact = IsWithin (set_at m n words fact.i fact.j) fact.rel
+abbrev pub IsWithinFact : Algebra → ℕ → List ℕ → Fact → Type 0
+IsWithinFact m n words fact = IsWithin (relation_between m n words fact.i fact.j) fact.rel
 
 -- ---- of one actor
 
 -- the words are within what the actor has seen and within its facts
-pub record IsWithinActor (m : Meaning) (n : ℕ) (words : List ℕ) (a : ActorState) : Type 0 where
-  pub seen : AreWithin words a.seen
+pub record IsWithinActor (m : Algebra) (n : ℕ) (words : List ℕ) (a : ActorState) : Type 0 where
+  pub seen : Refines words a.seen
   pub facts : All (IsWithinFact m n words) a.mine
 
 -- what the actor has seen is within the opening words and within its facts
-pub record HasSeenWithin (m : Meaning) (n : ℕ) (start : List ℕ) (a : ActorState) : Type 0 where
-  pub opening : AreWithin a.seen start
+pub record HasSeenWithin (m : Algebra) (n : ℕ) (start : List ℕ) (a : ActorState) : Type 0 where
+  pub opening : Refines a.seen start
   pub facts : All (IsWithinFact m n a.seen) a.mine
 
 -- ---- of the machine
 
 -- a closed network within the opening words and within every fact of every live actor
-pub record IsCandidate (m : Meaning) (s : CoreState) (xs : List ℕ) : Type 0 where
+pub record IsCandidate (m : Algebra) (s : CoreState) (xs : List ℕ) : Type 0 where
   pub network : IsNetwork m s.nodes xs
   pub closed : IsClosed m s.nodes xs
-  pub opening : AreWithin xs s.opening
+  pub opening : Refines xs s.opening
   pub facts : EachLive s.actors (λ a. All (IsWithinFact m s.nodes xs) a.mine)
 
 -- the words are within the opening words, within what every live actor has seen and within its facts
-pub record AreWordsWithin (m : Meaning) (s : CoreState) : Type 0 where
-  pub opening : AreWithin s.words s.opening
+pub record AreWordsWithin (m : Algebra) (s : CoreState) : Type 0 where
+  pub opening : Refines s.words s.opening
   pub actors : EachLive s.actors (IsWithinActor m s.nodes s.words)
 
-pub record Bound (m : Meaning) (s : CoreState) : Type 0 where
+pub record Bound (m : Algebra) (s : CoreState) : Type 0 where
   -- no closed network within what was stated is lost
-  pub nothing_lost : (xs : List ℕ) → IsCandidate m s xs → AreWithin xs s.words
+  pub nothing_lost : (xs : List ℕ) → IsCandidate m s xs → Refines xs s.words
   pub words_within : AreWordsWithin m s
   pub seen_within : EachLive s.actors (HasSeenWithin m s.nodes s.opening)
   pub weights : AreWeighed s.opening_weight s.actors
@@ -51,9 +51,9 @@ pub record Bound (m : Meaning) (s : CoreState) : Type 0 where
 
 -- the actor at k is the only live one, and the words lie between the closure of the opening words met with its facts and
 -- those words met with its facts; so they have that closure
-pub record IsAlone (m : Meaning) (s : CoreState) (k : ℕ) (a : ActorState) : Type 0 where
+pub record IsAlone (m : Algebra) (s : CoreState) (k : ℕ) (a : ActorState) : Type 0 where
   pub only : (l : ℕ) (b : ActorState) → IsLiveAt s.actors l b → l ≡ k
-  pub upper : AreWithin s.words (met_with m s.nodes s.opening a.mine)
-  pub lower : (closure : List ℕ) → IsClosure m s.nodes (met_with m s.nodes s.opening a.mine) closure → AreWithin closure s.words
+  pub upper : Refines s.words (narrowed_by m s.nodes s.opening a.mine)
+  pub lower : (closure : List ℕ) → IsClosure m s.nodes (narrowed_by m s.nodes s.opening a.mine) closure → Refines closure s.words
   pub same_closure :
-      (closure : List ℕ) → IsClosure m s.nodes (met_with m s.nodes s.opening a.mine) closure → IsClosure m s.nodes s.words closure
+      (closure : List ℕ) → IsClosure m s.nodes (narrowed_by m s.nodes s.opening a.mine) closure → IsClosure m s.nodes s.words closure

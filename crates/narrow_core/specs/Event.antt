@@ -1,10 +1,10 @@
 -- The events of the machine: when each is allowed, and what it changes. What an event does not name stays as it was.
 use Rattle.std.specs.Prelude.{◌≡◌, ◌≢◌, ℕ, ◌<◌, List, [], ◌∷◌, ◌++◌, slice_get, slice_index, slice_set, Some}
-use Rattle.calculus_table.specs.Meaning.{Meaning}
+use Rattle.calculus_table.specs.Algebra.{Algebra}
 use Rattle.calculus_table.specs.Composition.{composition}
 use Rattle.network_words.specs.declared.fact.Fact.{Fact}
 use Rattle.network_words.specs.Edge.{edge_count, edge_between, IsProperTriple}
-use Rattle.network_words.specs.Network.{set_at, met_at}
+use Rattle.network_words.specs.Network.{relation_between, narrowed_at}
 use Rattle.narrow_core.specs.declared.event.Event.{Event}
 use Rattle.narrow_core.specs.declared.event.Event.TheVariants.{Assert, Read, Narrow, Split, Join}
 use Rattle.narrow_core.specs.Actor.{ActorState, IsLiveAt, fresh, seeing, stating, giving, joining, spent}
@@ -13,11 +13,11 @@ use Rattle.narrow_core.specs.Machine.{CoreState, IsProperFact}
 -- ---- what each event changes
 
 -- the fact's edge is met with the fact's set, turned where needed; the actor has the fact and sees the edge
-pub record Asserts (m : Meaning) (k : ℕ) (fact : Fact) (old new : CoreState) : Type 0 where
+pub record Asserts (m : Algebra) (k : ℕ) (fact : Fact) (old new : CoreState) : Type 0 where
   pub actor : ActorState
   pub is_there : slice_get old.actors k ≡ Some actor
   pub words : List ℕ
-  pub words_is : words ≡ met_at m old.nodes old.words fact.i fact.j fact.rel
+  pub words_is : words ≡ narrowed_at m old.nodes old.words fact.i fact.j fact.rel
   pub after :
       let e = edge_between old.nodes fact.i fact.j in
       new ≡ record old { words = words; actors = slice_set old.actors k (seeing e (slice_index words e) (stating fact actor)) }
@@ -29,12 +29,12 @@ pub record Reads (k e : ℕ) (old new : CoreState) : Type 0 where
   pub after : new ≡ record old { actors = slice_set old.actors k (seeing e (slice_index old.words e) actor) }
 
 -- the edge from h to j is met with the composition of what the actor has seen from h to i and from i to j; the actor sees it
-pub record Narrows (m : Meaning) (k h i j : ℕ) (old new : CoreState) : Type 0 where
+pub record Narrows (m : Algebra) (k h i j : ℕ) (old new : CoreState) : Type 0 where
   pub actor : ActorState
   pub is_there : slice_get old.actors k ≡ Some actor
   pub words : List ℕ
   pub words_is :
-      words ≡ met_at m old.nodes old.words h j (composition m (set_at m old.nodes actor.seen h i) (set_at m old.nodes actor.seen i j))
+      words ≡ narrowed_at m old.nodes old.words h j (composition m (relation_between m old.nodes actor.seen h i) (relation_between m old.nodes actor.seen i j))
   pub after :
       let e = edge_between old.nodes h j in
       new ≡ record old { words = words; actors = slice_set old.actors k (seeing e (slice_index words e) actor) }
@@ -54,7 +54,7 @@ pub record Joins (k l : ℕ) (old new : CoreState) : Type 0 where
   pub after : new ≡ record old { actors = slice_set (slice_set old.actors k (joining actor other)) l (spent other) }
 
 -- the event leads from the state old to the state new
-abbrev pub IsStep : Meaning → Event → CoreState → CoreState → Type 0
+abbrev pub IsStep : Algebra → Event → CoreState → CoreState → Type 0
 IsStep m (Assert k fact) = Asserts m k fact
 IsStep m (Read k e) = Reads k e
 IsStep m (Narrow k h i j) = Narrows m k h i j

@@ -1,6 +1,6 @@
 -- What holds of the machine after every list of events from its opening, and wherever the bound holds.
 use Rattle.std.specs.Prelude.{◌≡◌, ℕ, ◌<◌, List}
-use Rattle.calculus_table.specs.Meaning.{Meaning}
+use Rattle.calculus_table.specs.Algebra.{Algebra}
 use Rattle.calculus_table.specs.Composition.{full_of}
 use Rattle.calculus_table.specs.Calculus.{IsCalculus}
 use Rattle.network_words.specs.Network.{Network, IsNetwork}
@@ -11,7 +11,7 @@ use Rattle.narrow_core.specs.Run.{IsRun}
 use Rattle.narrow_core.specs.Bound.{Bound, IsAlone}
 
 -- events of a calculus, however they interleave, lead from the opening of the machine over a network to the state s
-pub record IsSchedule (m : Meaning) (net : Network) (weight : ℕ) (events : List Event) (s : CoreState) : Type 0 where
+pub record IsSchedule (m : Algebra) (net : Network) (weight : ℕ) (events : List Event) (s : CoreState) : Type 0 where
   pub calculus : IsCalculus m
   pub full : net.full ≡ full_of m
   pub network : IsNetwork m net.nodes net.words
@@ -21,16 +21,16 @@ pub record IsSchedule (m : Meaning) (net : Network) (weight : ℕ) (events : Lis
 -- the bound holds after every schedule
 abbrev pub EveryScheduleKeepsTheBound : Type 0
 EveryScheduleKeepsTheBound =
-    (m : Meaning) (net : Network) (weight : ℕ) (events : List Event) (s : CoreState) → IsSchedule m net weight events s → Bound m s
+    (m : Algebra) (net : Network) (weight : ℕ) (events : List Event) (s : CoreState) → IsSchedule m net weight events s → Bound m s
 
 -- after every schedule a live actor with the whole weight is alone
 abbrev pub TheWholeWeightIsAlone : Type 0
 TheWholeWeightIsAlone =
-    (m : Meaning) (net : Network) (weight : ℕ) (events : List Event) (s : CoreState) (k : ℕ) (a : ActorState) →
+    (m : Algebra) (net : Network) (weight : ℕ) (events : List Event) (s : CoreState) (k : ℕ) (a : ActorState) →
     IsSchedule m net weight events s → IsLiveAt s.actors k a → a.weight ≡ weight → IsAlone m s k a
 
 -- where the bound holds, a live actor with the whole weight is alone
 abbrev pub TheBoundMakesAlone : Type 0
 TheBoundMakesAlone =
-    (m : Meaning) (s : CoreState) (k : ℕ) (a : ActorState) →
+    (m : Algebra) (s : CoreState) (k : ℕ) (a : ActorState) →
     IsCalculus m → s.full ≡ full_of m → IsCore s → Bound m s → IsLiveAt s.actors k a → a.weight ≡ s.opening_weight → IsAlone m s k a

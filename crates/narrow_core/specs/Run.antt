@@ -1,13 +1,13 @@
 -- Runs of the machine: events one after another, each allowed where it happens.
 use Rattle.std.specs.Prelude.{◌≡◌, ℕ, ◌≤◌, ⊤, List, [], ◌∷◌, length, take, slice_get, Some}
-use Rattle.calculus_table.specs.Meaning.{Meaning}
+use Rattle.calculus_table.specs.Algebra.{Algebra}
 use Rattle.narrow_core.specs.declared.event.Event.{Event}
 use Rattle.narrow_core.specs.declared.event.Event.TheVariants.{Assert, Read, Narrow, Split, Join}
 use Rattle.narrow_core.specs.Machine.{CoreState}
 use Rattle.narrow_core.specs.Event.{IsAllowed, IsStep}
 
 -- the events lead, each allowed, from the state old to the state new
-abbrev pub IsRun : Meaning → List Event → CoreState → CoreState → Type 0
+abbrev pub IsRun : Algebra → List Event → CoreState → CoreState → Type 0
 IsRun m [] old new = new ≡ old
 IsRun m (e ∷ es) old new = (mid : CoreState) × IsAllowed old e × IsStep m e old mid × IsRun m es mid new
 
@@ -25,7 +25,7 @@ TakesMemory (Split k left) = ⊤
 TakesMemory (Join k l) = ⊤
 
 -- the first of the events lead from old to new, where the next one is allowed and takes memory
-pub record WantsMemory (m : Meaning) (events : List Event) (old new : CoreState) : Type 0 where
+pub record WantsMemory (m : Algebra) (events : List Event) (old new : CoreState) : Type 0 where
   pub steps : ℕ
   pub run : IsRun m (take steps events) old new
   pub event : Event

@@ -26,7 +26,7 @@ impl Actor {
     ghost use Rattle.calculus_table.specs.Rel.{IsWithin};
     ghost use Rattle.calculus_table.specs.Composition.{full_of};
     ghost use Rattle.network_words.specs.Edge.{IsProperPair};
-    ghost use Rattle.network_words.specs.Network.{IsNetwork, set_at};
+    ghost use Rattle.network_words.specs.Network.{IsNetwork, relation_between};
     ghost use Rattle.narrow_core.specs.Actor.{ActorState, fresh, seeing, stating, giving, joining, spent};
 
     /// A live actor that has stated nothing.
@@ -79,9 +79,9 @@ impl Actor {
     /// What the actor has seen of the pair `(i, j)`, turned by the converse where `i > j`.
     pub(crate) fn seen_between<C: Compose>(&self, c: &C, net: &Net, i: u32, j: u32) -> Rel
         requires proper { IsProperPair net.now.nodes i j }
-        requires within { IsNetwork (C.meaning c.now) net.now.nodes self.now.seen }
-        ensures value { result ≡ set_at (C.meaning c.now) net.now.nodes self.now.seen i j }
-        ensures within { IsWithin result (full_of (C.meaning c.now)) }
+        requires within { IsNetwork (C.algebra c.now) net.now.nodes self.now.seen }
+        ensures value { result ≡ relation_between (C.algebra c.now) net.now.nodes self.now.seen i j }
+        ensures within { IsWithin result (full_of (C.algebra c.now)) }
     {
         if i < j {
             self.sight(net.edge(i, j))

@@ -45,7 +45,7 @@ impl Model for Core {
 impl Core {
     ghost use Rattle.std.specs.Prelude.{◌≡◌, ℕ, ◌<◌, ◌↔◌, ◌^◌, length, take, slice_index, IfOk, OnErr, OnOk, IsTrue, Some, MatchOption};
     ghost use Rattle.calculus_table.specs.Rel.{IsWithin};
-    ghost use Rattle.calculus_table.specs.Meaning.{Meaning};
+    ghost use Rattle.calculus_table.specs.Algebra.{Algebra};
     ghost use Rattle.calculus_table.specs.Composition.{full_of};
     ghost use Rattle.network_words.specs.Edge.{edge_count, IsProperPair, edge_between};
     ghost use Rattle.narrow_core.specs.Actor.{IsLiveAt};
@@ -59,7 +59,7 @@ impl Core {
         requires some { 0 < weight }
         requires within { (e : ℕ) → IsWithin (slice_index net.now.words e) net.now.full }
         ensures opened { IfOk result (λ core. core ≡ opened net.now weight) }
-        ensures bound { IfOk result (λ core. (m : Meaning) → Bound m core) }
+        ensures bound { IfOk result (λ core. (m : Algebra) → Bound m core) }
     {
         let opening = Vec::from_slice(alloc, net.words()).map_err(|_| Memory)?;
         let actor = Actor::new(alloc, weight, net.words())?;
@@ -124,9 +124,9 @@ impl Core {
     /// Makes one event. Where memory is wanting the machine is as before. Reading and narrowing take none.
     pub fn step<C: Compose>(&mut self, c: &C, event: &Event) -> Result<(), Memory>
         requires allowed { IsAllowed self.old event.now }
-        requires full { self.old.full ≡ full_of (C.meaning c.now) }
-        ensures stepped { OnOk result (IsStep (C.meaning c.now) event.now self.old self.new) }
-        ensures bound { Bound (C.meaning c.now) self.old → Bound (C.meaning c.now) self.new }
+        requires full { self.old.full ≡ full_of (C.algebra c.now) }
+        ensures stepped { OnOk result (IsStep (C.algebra c.now) event.now self.old self.new) }
+        ensures bound { Bound (C.algebra c.now) self.old → Bound (C.algebra c.now) self.new }
         ensures memory { OnErr result (self.new ≡ self.old) }
         ensures takes { OnErr result (TakesMemory event.now) }
         ensures same { SameOpening self.old self.new }
@@ -146,12 +146,12 @@ impl Core {
     /// Makes the events in turn while the next one is allowed, and tells how many it made. Where memory is wanting the machine
     /// is where the first of them left it.
     pub fn run<C: Compose>(&mut self, c: &C, events: &[Event]) -> Result<u32, Memory>
-        requires full { self.old.full ≡ full_of (C.meaning c.now) }
+        requires full { self.old.full ≡ full_of (C.algebra c.now) }
         requires few { length events.now < 2 ^ 32 }
-        ensures ran { IfOk result (λ steps. IsRun (C.meaning c.now) (take steps events.now) self.old self.new) }
+        ensures ran { IfOk result (λ steps. IsRun (C.algebra c.now) (take steps events.now) self.old self.new) }
         ensures stops { IfOk result (λ steps. StopsAt events.now steps self.new) }
-        ensures bound { Bound (C.meaning c.now) self.old → Bound (C.meaning c.now) self.new }
-        ensures memory { OnErr result (WantsMemory (C.meaning c.now) events.now self.old self.new) }
+        ensures bound { Bound (C.algebra c.now) self.old → Bound (C.algebra c.now) self.new }
+        ensures memory { OnErr result (WantsMemory (C.algebra c.now) events.now self.old self.new) }
         ensures same { SameOpening self.old self.new }
     {
         for (done, event) in events.iter().enumerate() {
@@ -207,8 +207,8 @@ impl Core {
 
     fn assert<C: Compose>(&mut self, c: &C, actor: u32, fact: Fact) -> Result<(), Memory>
         requires allowed { MayAssert self.old actor fact }
-        requires full { self.old.full ≡ full_of (C.meaning c.now) }
-        ensures asserted { OnOk result (Asserts (C.meaning c.now) actor fact self.old self.new) }
+        requires full { self.old.full ≡ full_of (C.algebra c.now) }
+        ensures asserted { OnOk result (Asserts (C.algebra c.now) actor fact self.old self.new) }
         ensures memory { OnErr result (self.new ≡ self.old) }
     {
         let Fact { i, j, rel } = fact;
@@ -229,8 +229,8 @@ impl Core {
 
     fn narrow<C: Compose>(&mut self, c: &C, actor: u32, i: u32, j: u32, k: u32)
         requires allowed { MayNarrow self.old actor i j k }
-        requires full { self.old.full ≡ full_of (C.meaning c.now) }
-        ensures { Narrows (C.meaning c.now) actor i j k self.old self.new }
+        requires full { self.old.full ≡ full_of (C.algebra c.now) }
+        ensures { Narrows (C.algebra c.now) actor i j k self.old self.new }
     {
         let edge = self.edge_between(i, k);
         let actor = &mut self.actors[actor as usize];

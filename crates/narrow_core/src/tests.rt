@@ -20,7 +20,7 @@ const FULL: u64 = (1 << 8) - 1;
 /// The machine over three nodes of which nothing is known.
 fn open(alloc: Global, c: &Calculus, weight: u32) -> Result<Core, Memory>
     requires { 0 < weight }
-    ensures { IfOk result (λ core. core.full ≡ full_of c.now.meaning) }
+    ensures { IfOk result (λ core. core.full ≡ full_of c.now.algebra) }
 {
     match Net::new(alloc, 3, c.full()) {
         Ok(net) => Core::new(alloc, &net, weight),

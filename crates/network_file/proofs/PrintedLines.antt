@@ -5,7 +5,7 @@ use Rattle.std.proofs.lemmas.Bool.{cases_lt, lt-ltb, ltb-true}
 use Rattle.std.proofs.lemmas.Bool.Decides.{nat_tests}
 use Rattle.std.proofs.lemmas.Grind.{flat_map-append}
 use Rattle.std.proofs.lemmas.List.{take_all}
-use Rattle.calculus_table.specs.Calculus.{Named}
+use Rattle.calculus_table.specs.Calculus.{NamedAlgebra}
 use Rattle.network_words.specs.Edge.{edge_at}
 use Rattle.network_words.specs.Network.{Network}
 use Rattle.network_words.specs.declared.TheConstants.{MAX_NODES}
@@ -29,7 +29,7 @@ pairs_below n (suc i) = pairs_below n i ++ pairs_row i n
 
 -- ---- the lines
 
-abbrev pub edge_words : Named → Network → ℕ × ℕ → List (List ℕ)
+abbrev pub edge_words : NamedAlgebra → Network → ℕ × ℕ → List (List ℕ)
 edge_words c net p = decimal p.0 ∷ decimal p.1 ∷ set_words c (slice_index net.words (edge_at net.nodes p.0 p.1))
 
 abbrev pub names_words : List (List ℕ) → List (List ℕ)
@@ -39,10 +39,10 @@ abbrev pub names_lines : List (List ℕ) → List (List (List ℕ))
 names_lines [] = []
 names_lines (x ∷ xs) = names_words (x ∷ xs) ∷ []
 
-abbrev pub file_lines : Named → Network → List (ℕ × ℕ) → List (List (List ℕ))
+abbrev pub file_lines : NamedAlgebra → Network → List (ℕ × ℕ) → List (List (List ℕ))
 file_lines c net ps = (codes "nodes" ∷ decimal net.nodes ∷ []) ∷ (names_lines net.names ++ (map (edge_words c net) ps ++ ((46 ∷ []) ∷ []) ∷ []))
 
-edge_line-printed : (c : Named) (net : Network) (p : ℕ × ℕ) → edge_line c net p.0 p.1 ≡ printed_line (edge_words c net p)
+edge_line-printed : (c : NamedAlgebra) (net : Network) (p : ℕ × ℕ) → edge_line c net p.0 p.1 ≡ printed_line (edge_words c net p)
 edge_line-printed c net p =
     let a = slice_index net.words (edge_at net.nodes p.0 p.1) in
     ap (λ x. decimal p.0 ++ codes " " ++ decimal p.1 ++ codes " " ++ x ++ codes "\n") (set_text-spaced c a)
@@ -55,7 +55,7 @@ if_pair : (b : Bool) (f : ℕ × ℕ → List ℕ) (p : ℕ × ℕ) → cond b (
 if_pair true f p = sym (append-nil (f p))
 if_pair false f p = refl
 
-text_below-row : (c : Named) (net : Network) (i m : ℕ) → text_below m (later_line c net i) ≡ flat_map (λ p. edge_line c net p.0 p.1) (pairs_row i m)
+text_below-row : (c : NamedAlgebra) (net : Network) (i m : ℕ) → text_below m (later_line c net i) ≡ flat_map (λ p. edge_line c net p.0 p.1) (pairs_row i m)
 unfolding text_below pairs_row
 text_below-row c net i zero = refl
 text_below-row c net i (suc j) =
@@ -63,7 +63,7 @@ text_below-row c net i (suc j) =
     ∙ ap (λ x. flat_map (λ p. edge_line c net p.0 p.1) (pairs_row i j) ++ x) (if_pair (nat_lt i j) (λ p. edge_line c net p.0 p.1) (i, j))
     ∙ sym (flat_map-append (λ p. edge_line c net p.0 p.1) (pairs_row i j) (cond (nat_lt i j) ((i, j) ∷ []) []))
 
-text_below-rows : (c : Named) (net : Network) (k : ℕ) → text_below k (row_text c net) ≡ flat_map (λ p. edge_line c net p.0 p.1) (pairs_below net.nodes k)
+text_below-rows : (c : NamedAlgebra) (net : Network) (k : ℕ) → text_below k (row_text c net) ≡ flat_map (λ p. edge_line c net p.0 p.1) (pairs_below net.nodes k)
 unfolding text_below pairs_below
 text_below-rows c net zero = refl
 text_below-rows c net (suc i) =
@@ -71,7 +71,7 @@ text_below-rows c net (suc i) =
     ∙ ap (λ x. flat_map (λ p. edge_line c net p.0 p.1) (pairs_below net.nodes i) ++ x) (text_below-row c net i net.nodes)
     ∙ sym (flat_map-append (λ p. edge_line c net p.0 p.1) (pairs_below net.nodes i) (pairs_row i net.nodes))
 
-edges-printed : (c : Named) (net : Network) (ps : List (ℕ × ℕ)) → flat_map (λ p. edge_line c net p.0 p.1) ps ≡ printed (map (edge_words c net) ps)
+edges-printed : (c : NamedAlgebra) (net : Network) (ps : List (ℕ × ℕ)) → flat_map (λ p. edge_line c net p.0 p.1) ps ≡ printed (map (edge_words c net) ps)
 edges-printed c net [] = refl
 edges-printed c net (p ∷ ps) =
     ap (λ x. x ++ flat_map (λ q. edge_line c net q.0 q.1) ps) (edge_line-printed c net p) ∙ ap (λ x. printed_line (edge_words c net p) ++ x) (edges-printed c net ps)
@@ -99,7 +99,7 @@ text-shape : (d names edges : List ℕ) → codes "nodes " ++ d ++ codes "\n" ++
 text-shape d names edges = simp append_assoc
 
 -- the canonical text is that of the lines
-pub network_text-printed : (c : Named) (net : Network) → (0 < length net.names → length net.names ≡ net.nodes) → network_text c net ≡ printed (file_lines c net (pairs_below net.nodes net.nodes))
+pub network_text-printed : (c : NamedAlgebra) (net : Network) → (0 < length net.names → length net.names ≡ net.nodes) → network_text c net ≡ printed (file_lines c net (pairs_below net.nodes net.nodes))
 network_text-printed c net l =
     let n = net.nodes in
     let edges = map (edge_words c net) (pairs_below n n) in
@@ -124,15 +124,15 @@ pub record IsPair (n : ℕ) (p : ℕ × ℕ) : Type 0 where
   pub order : p.0 < p.1
   pub below : p.1 < n
 
-edge_tokens : (c : Named) (net : Network) (p : ℕ × ℕ) → net.nodes ≤ MAX_NODES → length c.names ≡ c.meaning.size → list_all is_name c.names ≡ true → IsPair net.nodes p → are_tokens (edge_words c net p) ≡ true
+edge_tokens : (c : NamedAlgebra) (net : Network) (p : ℕ × ℕ) → net.nodes ≤ MAX_NODES → length c.names ≡ c.algebra.size → list_all is_name c.names ≡ true → IsPair net.nodes p → are_tokens (edge_words c net p) ≡ true
 edge_tokens c net p few one_each names pair =
     let a = slice_index net.words (edge_at net.nodes p.0 p.1) in
     let ws = members c a ++ (41 ∷ []) ∷ [] in
     both (is_token_text (decimal p.0)) (list_all is_token_text (decimal p.1 ∷ (40 ∷ []) ∷ ws)) (IsPrintedNumber-below p.0 (small p.0 (omega arith))).token
     (both (is_token_text (decimal p.1)) (list_all is_token_text ((40 ∷ []) ∷ ws)) (IsPrintedNumber-below p.1 (small p.1 (omega arith))).token
-    (closed-tokens (members c a) (members-names c.names a c.meaning.size names (omega arith))))
+    (closed-tokens (members c a) (members-names c.names a c.algebra.size names (omega arith))))
 
-edges_tokens : (c : Named) (net : Network) (ps : List (ℕ × ℕ)) → net.nodes ≤ MAX_NODES → length c.names ≡ c.meaning.size → list_all is_name c.names ≡ true → AllByRecursion (IsPair net.nodes) ps →
+edges_tokens : (c : NamedAlgebra) (net : Network) (ps : List (ℕ × ℕ)) → net.nodes ≤ MAX_NODES → length c.names ≡ c.algebra.size → list_all is_name c.names ≡ true → AllByRecursion (IsPair net.nodes) ps →
     list_all are_tokens (map (edge_words c net) ps ++ ((46 ∷ []) ∷ []) ∷ []) ≡ true
 edges_tokens c net [] few one_each names pairs = refl
 edges_tokens c net (p ∷ ps) few one_each names pairs =
@@ -143,7 +143,7 @@ names_tokens : (names : List (List ℕ)) (rest : List (List (List ℕ))) → lis
 names_tokens [] rest h k = k
 names_tokens (x ∷ xs) rest h k = both (are_tokens (names_words (x ∷ xs))) (list_all are_tokens rest) (closed-tokens (x ∷ xs) h) k
 
-pub file_tokens : (c : Named) (net : Network) (ps : List (ℕ × ℕ)) → net.nodes ≤ MAX_NODES → length c.names ≡ c.meaning.size → list_all is_name c.names ≡ true → list_all is_name net.names ≡ true → AllByRecursion (IsPair net.nodes) ps →
+pub file_tokens : (c : NamedAlgebra) (net : Network) (ps : List (ℕ × ℕ)) → net.nodes ≤ MAX_NODES → length c.names ≡ c.algebra.size → list_all is_name c.names ≡ true → list_all is_name net.names ≡ true → AllByRecursion (IsPair net.nodes) ps →
     list_all are_tokens (file_lines c net ps) ≡ true
 file_tokens c net ps few one_each names own pairs =
     both (are_tokens (codes "nodes" ∷ decimal net.nodes ∷ [])) (list_all are_tokens (names_lines net.names ++ (map (edge_words c net) ps ++ ((46 ∷ []) ∷ []) ∷ [])))

@@ -7,14 +7,14 @@ use Rattle.std.proofs.lemmas.Bool.Decides.{nat_tests}
 use Rattle.std.proofs.lemmas.Slice.Eq.{bytes_eq-Decides}
 use Rattle.std.proofs.lemmas.List.Elements.{All-from_recursion, recursion_from_All}
 use Rattle.calculus_table.specs.Rel.{Has}
-use Rattle.calculus_table.specs.Calculus.{Named, AreDistinct}
+use Rattle.calculus_table.specs.Calculus.{NamedAlgebra, AreDistinct}
 use Rattle.calculus_table.proofs.Compositions.{full-member}
 use Rattle.network_words.specs.Edge.{edge_at}
 use Rattle.network_words.specs.Network.{Network}
-use Rattle.network_words.specs.Facts.{Allows, IsNetOf}
+use Rattle.network_words.specs.Facts.{Allows, IsNetworkOfFacts}
 use Rattle.network_words.specs.declared.TheConstants.{MAX_NODES}
 use Rattle.network_words.specs.declared.fact.Fact.{Fact}
-use Rattle.network_words.proofs.NetsOfFacts.{IsNetOf-unique}
+use Rattle.network_words.proofs.NetsOfFacts.{IsNetworkOfFacts-unique}
 use Rattle.qsr_lex.specs.Lexemes.{Lexeme}
 use Rattle.qsr_lex.specs.Names.{is_name}
 use Rattle.qsr_lex.specs.Numbers.{number_of}
@@ -31,7 +31,7 @@ use Rattle.named_sets.specs.Named.{set_of}
 use Rattle.named_sets.specs.Written.{members, set_words}
 use Rattle.named_sets.proofs.ReadSets.{set_of-members}
 use Rattle.named_sets.proofs.WrittenSets.{members-names}
-use Rattle.network_file.specs.LineForms.{nodes_form, names_form, behind_names, exactly, is_named, as_node, node_at, FactWords, fact_form}
+use Rattle.network_file.specs.LineForms.{nodes_form, names_form, after_names, exactly, is_named, as_node, node_at, FactWords, fact_form}
 use Rattle.network_file.specs.NetworkText.{network_text}
 use Rattle.network_file.specs.NetworkFile.{◌>>=◌, Said, end_at, nodes_within, nodes_line, names_here, names_line, node_by, node_of, differing, fact_line, closed, fact_lines, read_lines, read_network, IsNetworkOf, IsFileOf}
 use Rattle.network_file.specs.ReadAgain.{IsPrintable}
@@ -50,11 +50,11 @@ said_from n names facts = record { nodes = n; names = names; facts = facts }
 abbrev network_from : ℕ → ℕ → List ℕ → List (List ℕ) → Network
 network_from n f w m = record { nodes = n; full = f; words = w; names = m }
 
-pub file_is_of_one : (c : Named) (bytes : List ℕ) (net other : Network) → IsFileOf c bytes net → IsFileOf c bytes other → net ≡ other
+pub file_is_of_one : (c : NamedAlgebra) (bytes : List ℕ) (net other : Network) → IsFileOf c bytes net → IsFileOf c bytes other → net ≡ other
 file_is_of_one c bytes net other p q =
     let said : p.said ≡ q.said = same_ok p.said q.said (sym p.reads ∙ q.reads) in
     let of : IsNetworkOf c q.said net = subst (λ s. IsNetworkOf c s net) said p.network in
-    let words : net.words ≡ other.words = IsNetOf-unique c.meaning q.said.nodes q.said.facts net.words other.words of.words q.network.words in
+    let words : net.words ≡ other.words = IsNetworkOfFacts-unique c.algebra q.said.nodes q.said.facts net.words other.words of.words q.network.words in
     same_network net other (of.nodes ∙ sym q.network.nodes) (of.full ∙ sym q.network.full) words (of.names ∙ sym q.network.names)
   where
     same_ok : (a b : Said) → (let r : Result Said FileFault = Ok a in r) ≡ Ok b → a ≡ b
@@ -67,7 +67,7 @@ file_is_of_one c bytes net other p q =
 
 -- ---- the first line
 
-abbrev after_nodes : Named → TextEnd → ℕ × List TokenLine → Result Said FileFault
+abbrev after_nodes : NamedAlgebra → TextEnd → ℕ × List TokenLine → Result Said FileFault
 after_nodes c end first = names_line first.0 first.1 >>= λ named. fact_lines c end first.0 named.0 [] named.1 >>= λ facts. Ok (record { nodes = first.0; names = named.0; facts = facts })
 
 nodes_test : (n : ℕ) → 0 < n → n ≤ MAX_NODES → (n == 0 || nat_lt MAX_NODES n) ≡ false
@@ -92,7 +92,7 @@ named_form n names all l =
 none_some : (i : ℕ) → (let o : Option ℕ = None in o) ≡ Some i → ⊥
 none_some i h = cc
 
-no_names_word : (i : ℕ) (rest : List Lexeme) → i < MAX_NODES → behind_names (lexeme_from (decimal i) ∷ rest) ≡ None
+no_names_word : (i : ℕ) (rest : List Lexeme) → i < MAX_NODES → after_names (lexeme_from (decimal i) ∷ rest) ≡ None
 no_names_word i rest few =
     let num = IsPrintedNumber-below i (small i (omega arith)) in
     let other : bytes_eq (decimal i) (codes "names") ≡ false =
@@ -102,13 +102,13 @@ no_names_word i rest few =
 abbrev end_line : List (List (List ℕ))
 end_line = ((46 ∷ []) ∷ []) ∷ []
 
-abbrev line_behind : List (List ℕ) → ℕ
-line_behind [] = 2
-line_behind (x ∷ xs) = 3
+abbrev line_after : List (List ℕ) → ℕ
+line_after [] = 2
+line_after (x ∷ xs) = 3
 
-names_line-printed : (c : Named) (net : Network) (ps : List (ℕ × ℕ)) (names : List (List ℕ)) → net.nodes ≤ MAX_NODES → AllByRecursion (IsPair net.nodes) ps → list_all is_name names ≡ true → AreDistinct names →
+names_line-printed : (c : NamedAlgebra) (net : Network) (ps : List (ℕ × ℕ)) (names : List (List ℕ)) → net.nodes ≤ MAX_NODES → AllByRecursion (IsPair net.nodes) ps → list_all is_name names ≡ true → AreDistinct names →
     (0 < length names → length names ≡ net.nodes) →
-    names_line net.nodes (printed_token_lines 2 (names_lines names ++ (map (edge_words c net) ps ++ end_line))) ≡ Ok (names, printed_token_lines (line_behind names) (map (edge_words c net) ps ++ end_line))
+    names_line net.nodes (printed_token_lines 2 (names_lines names ++ (map (edge_words c net) ps ++ end_line))) ≡ Ok (names, printed_token_lines (line_after names) (map (edge_words c net) ps ++ end_line))
 names_line-printed c net [] [] few pairs all d l = refl
 names_line-printed c net (p ∷ ps) [] few pairs all d l =
     let first : p.0 < MAX_NODES = omega (arith, pairs.0.order, pairs.0.below) in
@@ -139,69 +139,69 @@ node_at-printed named i rest few =
 fact_form-printed : (named : Bool) (i j : ℕ) (ms : List (List ℕ)) → i < MAX_NODES → j < MAX_NODES → list_all is_name ms ≡ true →
     fact_form named (map lexeme_from (decimal i ∷ decimal j ∷ (40 ∷ []) ∷ (ms ++ (41 ∷ []) ∷ []))) ≡ Some (words_from (decimal i) (decimal j) ms)
 fact_form-printed named i j ms few more all =
-    let behind = map lexeme_from ((40 ∷ []) ∷ (ms ++ (41 ∷ []) ∷ [])) in
+    let after = map lexeme_from ((40 ∷ []) ∷ (ms ++ (41 ∷ []) ∷ [])) in
     ap (λ o. option_and_then (λ (first : List ℕ × List Lexeme). option_and_then (λ (second : List ℕ × List Lexeme). option_and_then (λ (set : List (List ℕ) × List Lexeme). at_end (words_from first.0 second.0 set.0) set.1) (names_at second.1)) (node_at named first.1)) o)
-    (node_at-printed named i (lexeme_from (decimal j) ∷ behind) few)
-    ∙ ap (λ o. option_and_then (λ (second : List ℕ × List Lexeme). option_and_then (λ (set : List (List ℕ) × List Lexeme). at_end (words_from (decimal i) second.0 set.0) set.1) (names_at second.1)) o) (node_at-printed named j behind more)
+    (node_at-printed named i (lexeme_from (decimal j) ∷ after) few)
+    ∙ ap (λ o. option_and_then (λ (second : List ℕ × List Lexeme). option_and_then (λ (set : List (List ℕ) × List Lexeme). at_end (words_from (decimal i) second.0 set.0) set.1) (names_at second.1)) o) (node_at-printed named j after more)
     ∙ ap (λ o. option_and_then (λ (set : List (List ℕ) × List Lexeme). at_end (words_from (decimal i) (decimal j) set.0) set.1) o) (IsPrintedSet-from_tests ms [] all).read
 
 node_of-printed : (n line i : ℕ) (names : List (List ℕ)) → i < MAX_NODES → i < n → node_of n names line (decimal i) ≡ Ok i
 node_of-printed n line i names few below =
     ap (node_by n names line (decimal i)) (IsPrintedNumber-below i (small i (omega arith))).number ∙ ap (λ b. cond b (Ok i) (Err (NoNode line))) (lt-ltb i n below)
 
-abbrev set_step : Named → ℕ → List (List ℕ) → ℕ → ℕ → Result Fact FileFault
+abbrev set_step : NamedAlgebra → ℕ → List (List ℕ) → ℕ → ℕ → Result Fact FileFault
 set_step c line ms i j = ok_or (set_of c.names ms) (Unknown line) >>= λ set. Ok (fact_from i j set)
 
-abbrev differ_step : Named → ℕ → List (List ℕ) → ℕ → ℕ → Result Fact FileFault
+abbrev differ_step : NamedAlgebra → ℕ → List (List ℕ) → ℕ → ℕ → Result Fact FileFault
 differ_step c line ms i k = differing line i k >>= λ j. set_step c line ms i j
 
-abbrev second_step : Named → ℕ → List (List ℕ) → ℕ → List ℕ → List (List ℕ) → ℕ → Result Fact FileFault
+abbrev second_step : NamedAlgebra → ℕ → List (List ℕ) → ℕ → List ℕ → List (List ℕ) → ℕ → Result Fact FileFault
 second_step c n names line word ms i = node_of n names line word >>= λ k. differ_step c line ms i k
 
-abbrev first_step : Named → ℕ → List (List ℕ) → ℕ → FactWords → Result Fact FileFault
+abbrev first_step : NamedAlgebra → ℕ → List (List ℕ) → ℕ → FactWords → Result Fact FileFault
 first_step c n names line words = node_of n names line words.first >>= λ i. second_step c n names line words.second words.set i
 
 other_test : (i j : ℕ) → i < j → (i == j) ≡ false
 other_test i j h = grind (arith, nat_tests)
 
-fact_line-printed : (c : Named) (net : Network) (line : ℕ) (p : ℕ × ℕ) → IsPrintable c net → IsPair net.nodes p → fact_line c net.nodes net.names (token_line line (map lexeme_from (edge_words c net p))) ≡ Ok (fact_at net p)
+fact_line-printed : (c : NamedAlgebra) (net : Network) (line : ℕ) (p : ℕ × ℕ) → IsPrintable c net → IsPair net.nodes p → fact_line c net.nodes net.names (token_line line (map lexeme_from (edge_words c net p))) ≡ Ok (fact_at net p)
 fact_line-printed c net line p h pair =
     let a = slice_index net.words (edge_at net.nodes p.0 p.1) in
     let ms = members c a in
     let below : p.0 < net.nodes = omega (arith, pair.order, pair.below) in
     let few : p.0 < MAX_NODES = omega (arith, h.shape.bounded, below) in
     let more : p.1 < MAX_NODES = omega (arith, h.shape.bounded, pair.below) in
-    let one_each : length c.names ≡ c.meaning.size = h.calculus.one_each in
-    let names = members-names c.names a c.meaning.size h.bases (omega (arith, one_each)) in
+    let one_each : length c.names ≡ c.algebra.size = h.calculus.one_each in
+    let names = members-names c.names a c.algebra.size h.bases (omega (arith, one_each)) in
     ap (λ o. ok_or o (Syntax line) >>= first_step c net.nodes net.names line) (fact_form-printed (is_named net.names) p.0 p.1 ms few more names)
     ∙ ap (λ s. s >>= second_step c net.nodes net.names line (decimal p.1) ms) (node_of-printed net.nodes line p.0 net.names few below)
     ∙ ap (λ s. s >>= differ_step c line ms p.0) (node_of-printed net.nodes line p.1 net.names more pair.below)
     ∙ ap (λ b. cond b (Err (SelfEdge line)) (Ok p.1) >>= set_step c line ms p.0) (other_test p.0 p.1 pair.order)
-    ∙ ap (λ o. ok_or o (Unknown line) >>= λ set. Ok (fact_from p.0 p.1 set)) (set_of-members c.names c.meaning a h.calculus.distinct one_each (h.words.within (edge_at net.nodes p.0 p.1)))
+    ∙ ap (λ o. ok_or o (Unknown line) >>= λ set. Ok (fact_from p.0 p.1 set)) (set_of-members c.names c.algebra a h.calculus.distinct one_each (h.words.within (edge_at net.nodes p.0 p.1)))
 
 -- ---- the lines of facts
 
-fact_no_end : (c : Named) (net : Network) (p : ℕ × ℕ) → p.0 < MAX_NODES → is_end_line (map lexeme_from (edge_words c net p)) ≡ false
+fact_no_end : (c : NamedAlgebra) (net : Network) (p : ℕ × ℕ) → p.0 < MAX_NODES → is_end_line (map lexeme_from (edge_words c net p)) ≡ false
 fact_no_end c net p few =
     let rest = map lexeme_from (decimal p.1 ∷ set_words c (slice_index net.words (edge_at net.nodes p.0 p.1))) in
     ap (λ k. ends_there (cond (is_same_kind k Stop) (Some rest) None)) (IsPrintedNumber-below p.0 (small p.0 (omega arith))).word
 
-fact_lines-printed : (c : Named) (net : Network) (k line : ℕ) (ps : List (ℕ × ℕ)) (facts : List Fact) → IsPrintable c net → AllByRecursion (IsPair net.nodes) ps →
+fact_lines-printed : (c : NamedAlgebra) (net : Network) (k line : ℕ) (ps : List (ℕ × ℕ)) (facts : List Fact) → IsPrintable c net → AllByRecursion (IsPair net.nodes) ps →
     fact_lines c (Whole k) net.nodes net.names facts (printed_token_lines line (map (edge_words c net) ps ++ end_line)) ≡ Ok (facts ++ map (fact_at net) ps)
 fact_lines-printed c net k line [] facts h pairs = ap Ok (sym (append-nil facts))
 fact_lines-printed c net k line (p ∷ ps) facts h pairs =
     let few : p.0 < MAX_NODES = omega (arith, h.shape.bounded, pairs.0.order, pairs.0.below) in
-    let behind = printed_token_lines (line + 1) (map (edge_words c net) ps ++ end_line) in
+    let after = printed_token_lines (line + 1) (map (edge_words c net) ps ++ end_line) in
     let l = token_line line (map lexeme_from (edge_words c net p)) in
-    ap (λ b. cond b (closed (Whole k) facts behind) (fact_line c net.nodes net.names l >>= λ fact. fact_lines c (Whole k) net.nodes net.names (facts ++ fact ∷ []) behind)) (fact_no_end c net p few)
-    ∙ ap (λ s. s >>= λ fact. fact_lines c (Whole k) net.nodes net.names (facts ++ fact ∷ []) behind) (fact_line-printed c net line p h pairs.0)
+    ap (λ b. cond b (closed (Whole k) facts after) (fact_line c net.nodes net.names l >>= λ fact. fact_lines c (Whole k) net.nodes net.names (facts ++ fact ∷ []) after)) (fact_no_end c net p few)
+    ∙ ap (λ s. s >>= λ fact. fact_lines c (Whole k) net.nodes net.names (facts ++ fact ∷ []) after) (fact_line-printed c net line p h pairs.0)
     ∙ fact_lines-printed c net k (line + 1) ps (facts ++ fact_at net p ∷ []) h pairs.1
     ∙ ap Ok (append_assoc facts (fact_at net p ∷ []) (map (fact_at net) ps))
 
 -- ---- the net of the facts
 
-all_allow : (c : Named) (net : Network) (i j t : ℕ) (ps : List (ℕ × ℕ)) → i < j → Has (slice_index net.words (edge_at net.nodes i j)) t → AllByRecursion (IsPair net.nodes) ps →
-    AllByRecursion (Allows c.meaning i j t) (map (fact_at net) ps)
+all_allow : (c : NamedAlgebra) (net : Network) (i j t : ℕ) (ps : List (ℕ × ℕ)) → i < j → Has (slice_index net.words (edge_at net.nodes i j)) t → AllByRecursion (IsPair net.nodes) ps →
+    AllByRecursion (Allows c.algebra i j t) (map (fact_at net) ps)
 all_allow c net i j t [] o h pairs = tt
 all_allow c net i j t (p ∷ ps) o h pairs = (
   record {
@@ -211,28 +211,28 @@ all_allow c net i j t (p ∷ ps) o h pairs = (
   all_allow c net i j t ps o h pairs.1,
 )
 
-allowed_at : (c : Named) (net : Network) (i j t : ℕ) (ps : List (ℕ × ℕ)) → Among i j ps → AllByRecursion (Allows c.meaning i j t) (map (fact_at net) ps) → Has (slice_index net.words (edge_at net.nodes i j)) t
+allowed_at : (c : NamedAlgebra) (net : Network) (i j t : ℕ) (ps : List (ℕ × ℕ)) → Among i j ps → AllByRecursion (Allows c.algebra i j t) (map (fact_at net) ps) → Has (slice_index net.words (edge_at net.nodes i j)) t
 allowed_at c net i j t [] m h = absurd m
 allowed_at c net i j t (p ∷ ps) m h = elim m [
   | inl here ↦ subst (λ q. Has (slice_index net.words (edge_at net.nodes i q)) t) here.1 (subst (λ q. Has (slice_index net.words (edge_at net.nodes q p.1)) t) here.0 (h.0.straight here.0 here.1))
   | inr later ↦ allowed_at c net i j t ps later h.1
 ]
 
-net_of_edges : (c : Named) (net : Network) → IsPrintable c net → IsNetOf c.meaning net.nodes (map (fact_at net) (pairs_below net.nodes net.nodes)) net.words
+net_of_edges : (c : NamedAlgebra) (net : Network) → IsPrintable c net → IsNetworkOfFacts c.algebra net.nodes (map (fact_at net) (pairs_below net.nodes net.nodes)) net.words
 net_of_edges c net h =
     let n = net.nodes in
     let ps = pairs_below n n in
     record {
       length_is = h.words.length_is;
       members = λ i j t o b. (
-        λ x. (full-member c.meaning t ((h.words.within (edge_at n i j)).each t x), All-from_recursion (Allows c.meaning i j t) (map (fact_at net) ps) (all_allow c net i j t ps o x (pairs_below-pairs n n))),
-        λ x. allowed_at c net i j t ps (pairs_below-has n i j n (omega arith) o b) (recursion_from_All (Allows c.meaning i j t) (map (fact_at net) ps) x.1),
+        λ x. (full-member c.algebra t ((h.words.within (edge_at n i j)).each t x), All-from_recursion (Allows c.algebra i j t) (map (fact_at net) ps) (all_allow c net i j t ps o x (pairs_below-pairs n n))),
+        λ x. allowed_at c net i j t ps (pairs_below-has n i j n (omega arith) o b) (recursion_from_All (Allows c.algebra i j t) (map (fact_at net) ps) x.1),
       );
     }
 
 -- ---- the whole text
 
-pub printed_is_read : (c : Named) (net : Network) → IsPrintable c net → IsFileOf c (network_text c net) net
+pub printed_is_read : (c : NamedAlgebra) (net : Network) → IsPrintable c net → IsFileOf c (network_text c net) net
 printed_is_read c net h =
     let n = net.nodes in
     let few : n ≤ MAX_NODES = h.shape.bounded in
@@ -253,6 +253,6 @@ printed_is_read c net h =
           ∙ ap (read_lines c end) again.words
           ∙ ap (λ s. s >>= after_nodes c end) (nodes_line-printed end 1 n (printed_token_lines 2 (names_lines net.names ++ edges)) some few)
           ∙ ap (λ s. s >>= λ (named : List (List ℕ) × List TokenLine). fact_lines c end n named.0 [] named.1 >>= λ fs. Ok (said_from n named.0 fs)) (names_line-printed c net ps net.names few pairs h.names h.shape.distinct h.shape.named)
-          ∙ ap (λ s. s >>= λ fs. Ok (said_from n net.names fs)) (fact_lines-printed c net (line_count text) (line_behind net.names) ps [] h pairs);
+          ∙ ap (λ s. s >>= λ fs. Ok (said_from n net.names fs)) (fact_lines-printed c net (line_count text) (line_after net.names) ps [] h pairs);
       network = record { nodes = refl; full = h.full; names = refl; words = net_of_edges c net h };
     }

@@ -3,28 +3,28 @@ use Rattle.std.specs.Prelude.{ℕ, List, [], ◌∷◌, Bool, true, false, ◌&&
 use Rattle.qsr_lex.specs.Lexemes.{Lexeme}
 use Rattle.qsr_lex.specs.Names.{is_name}
 use Rattle.qsr_lex.specs.Numbers.{number_of}
-use Rattle.qsr_lex.specs.Words.{word_at, names_at, behind_word, ◌>>=◌, at_end}
+use Rattle.qsr_lex.specs.Words.{word_at, names_at, after_word, ◌>>=◌, at_end}
 
 -- `nodes N`: the number
 abbrev pub nodes_form : List Lexeme → Option ℕ
 nodes_form words = do
-  behind ← behind_word (codes "nodes") words
-  found ← word_at behind
+  after ← after_word (codes "nodes") words
+  found ← word_at after
   nodes ← number_of found.0
   at_end nodes found.1
 
--- what stands behind the word that begins a line of names
-abbrev pub behind_names : List Lexeme → Option (List Lexeme)
-behind_names words = behind_word (codes "names") words
+-- what stands after the word that begins a line of names
+abbrev pub after_names : List Lexeme → Option (List Lexeme)
+after_names words = after_word (codes "names") words
 
 -- the names, where there are n
 abbrev pub exactly : ℕ → List (List ℕ) → Option (List (List ℕ))
 exactly n names = if length names == n then Some names else None
 
--- `names ( A B .. )`, with n names, of which this stands behind the word `names`: the names
+-- `names ( A B .. )`, with n names, of which this stands after the word `names`: the names
 abbrev pub names_form : ℕ → List Lexeme → Option (List (List ℕ))
-names_form n behind = do
-  found ← names_at behind
+names_form n after = do
+  found ← names_at after
   names ← exactly n found.0
   at_end names found.1
 
@@ -37,11 +37,11 @@ is_named (x ∷ xs) = true
 abbrev pub is_node_word : Bool → List ℕ → Bool
 is_node_word named word = is_some (number_of word) || (named && is_name word)
 
--- the word and what stands behind it, where it stands for a node
+-- the word and what stands after it, where it stands for a node
 abbrev pub as_node : Bool → (List ℕ × List Lexeme) → Option (List ℕ × List Lexeme)
 as_node named found = if is_node_word named found.0 then Some found else None
 
--- a word that stands for a node at the front, and what stands behind it
+-- a word that stands for a node at the front, and what stands after it
 abbrev pub node_at : Bool → List Lexeme → Option (List ℕ × List Lexeme)
 node_at named words = do
   found ← word_at words

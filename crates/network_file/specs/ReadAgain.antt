@@ -1,7 +1,7 @@
 -- The canonical text of a network is read as that network.
 use Rattle.std.specs.Prelude.{◌≡◌, ℕ, true, List}
 use Rattle.std.specs.List.{list_all}
-use Rattle.calculus_table.specs.Calculus.{Named, NamesItsBases}
+use Rattle.calculus_table.specs.Calculus.{NamedAlgebra, IsNamedCalculus}
 use Rattle.calculus_table.specs.Composition.{full_of}
 use Rattle.network_words.specs.Network.{Network, IsNetwork, IsShaped}
 use Rattle.qsr_lex.specs.Names.{is_name}
@@ -9,18 +9,18 @@ use Rattle.network_file.specs.NetworkText.{network_text}
 use Rattle.network_file.specs.NetworkFile.{IsFileOf}
 
 -- a network over a calculus, whose names may stand in a file
-pub record IsPrintable (c : Named) (net : Network) : Type 0 where
-  pub calculus : NamesItsBases c
+pub record IsPrintable (c : NamedAlgebra) (net : Network) : Type 0 where
+  pub calculus : IsNamedCalculus c
   pub bases : list_all is_name c.names ≡ true
   pub shape : IsShaped net
-  pub full : net.full ≡ full_of c.meaning
-  pub words : IsNetwork c.meaning net.nodes net.words
+  pub full : net.full ≡ full_of c.algebra
+  pub words : IsNetwork c.algebra net.nodes net.words
   pub names : list_all is_name net.names ≡ true
 
 -- what is printed is a network file, of that network
 abbrev pub PrintedIsRead : Type 0
-PrintedIsRead = (c : Named) (net : Network) → IsPrintable c net → IsFileOf c (network_text c net) net
+PrintedIsRead = (c : NamedAlgebra) (net : Network) → IsPrintable c net → IsFileOf c (network_text c net) net
 
 -- a text is the file of one network at most
 abbrev pub FileIsOfOne : Type 0
-FileIsOfOne = (c : Named) (bytes : List ℕ) (net other : Network) → IsFileOf c bytes net → IsFileOf c bytes other → net ≡ other
+FileIsOfOne = (c : NamedAlgebra) (bytes : List ℕ) (net other : Network) → IsFileOf c bytes net → IsFileOf c bytes other → net ≡ other

@@ -3,7 +3,7 @@ ghost use Rattle.std.specs.Prelude.{◌≡◌, ◌<◌, ◌≢◌, [], map, IfOk
 ghost use Rattle.calculus_table.specs.Rel.{IsWithin};
 ghost use Rattle.calculus_table.specs.Composition.{full_of};
 ghost use Rattle.network_words.specs.Edge.{IsProperPair};
-ghost use Rattle.network_words.specs.Facts.{IsNetOf};
+ghost use Rattle.network_words.specs.Facts.{IsNetworkOfFacts};
 ghost use Rattle.network_words.specs.declared.fact.Fact.{Fact};
 ghost use Rattle.qsr_lex.specs.TokenLines.{token_line};
 ghost use Rattle.qsr_lex.specs.Words.{is_end_line};
@@ -47,7 +47,7 @@ fn read_fact(
 ) -> Result<Fact, FileFault>
     ensures ok { IfOk result (λ fact. fact_line c.now net.now.nodes net.now.names (token_line line.old.number line.old.words) ≡ Ok fact) }
     ensures proper { IfOk result (λ fact. IsProperPair net.now.nodes fact.i fact.j) }
-    ensures within { IfOk result (λ fact. IsWithin fact.rel (full_of c.now.meaning)) }
+    ensures within { IfOk result (λ fact. IsWithin fact.rel (full_of c.now.algebra)) }
     ensures fault { IfErr result (FailsWith (fact_line c.now net.now.nodes net.now.names (token_line line.old.number line.old.words))) }
 {
     let number = line.number;
@@ -91,7 +91,7 @@ fn read_line(
     Ok(false)
 }
 
-/// Looks whether nothing stands behind the end line.
+/// Looks whether nothing stands after the end line.
 fn read_end(lines: &mut LineReader<'_>, end: TextEnd) -> Result<(), FileFault>
     ensures ok { OnOk result ((facts : List Fact) → closed end facts lines.old ≡ Ok facts) }
     ensures fault { IfErr result (λ fault. (facts : List Fact) → closed end facts lines.old ≡ Err fault) }
@@ -105,7 +105,7 @@ fn read_end(lines: &mut LineReader<'_>, end: TextEnd) -> Result<(), FileFault>
     }
 }
 
-/// Meets the facts of the lines up to the end line, behind which nothing may stand.
+/// Meets the facts of the lines up to the end line, after which nothing may stand.
 pub(crate) fn read_facts(
     alloc: Global,
     lines: &mut LineReader<'_>,
@@ -113,7 +113,7 @@ pub(crate) fn read_facts(
     c: &Calculus,
     net: &mut Net,
 ) -> Result<(), FileFault>
-    requires { IsNetOf c.now.meaning net.old.nodes [] net.old.words }
+    requires { IsNetworkOfFacts c.now.algebra net.old.nodes [] net.old.words }
     ensures ok { OnOk result (ReadsFacts c.now end net.old net.new lines.old) }
     ensures fault { IfErr result (FailsWith (fact_lines c.now end net.old.nodes net.old.names [] lines.old)) }
 {

@@ -25,7 +25,7 @@ pub(crate) fn nodes_form(words: &mut WordReader<'_>) -> Option<u64>
     if words.is_empty() { Some(nodes) } else { None }
 }
 
-/// The names of a line `names ( A B .. )`, behind the word `names`, where there are so many.
+/// The names of a line `names ( A B .. )`, after the word `names`, where there are so many.
 pub(crate) fn names_form<'a>(
     alloc: Global,
     count: u32,

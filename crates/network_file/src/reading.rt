@@ -69,7 +69,7 @@ fn read_names(alloc: Global, lines: &mut LineReader<'_>, net: &mut Net) -> Resul
     }
 }
 
-/// The network of lines, behind which this end stands.
+/// The network of lines, after which this end stands.
 fn read_lines(
     alloc: Global,
     lines: &mut LineReader<'_>,

@@ -8,40 +8,40 @@ use Rattle.std.proofs.lemmas.List.Elements.{All-from_recursion, All-push, All-ni
 use Rattle.std.proofs.lemmas.Grind.{same_number_lists}
 use Rattle.std.proofs.Math.ListN.{drop_of_length-le}
 use Rattle.calculus_table.specs.Rel.{Has, IsWithin}
-use Rattle.calculus_table.specs.Meaning.{Meaning}
+use Rattle.calculus_table.specs.Algebra.{Algebra}
 use Rattle.calculus_table.specs.Composition.{full_of, converse}
 use Rattle.calculus_table.proofs.Sets.{Has-meet, Has-meet_l, Has-meet_r, IsWithin-antisym}
 use Rattle.calculus_table.proofs.Compositions.{Has-full, full-member}
 use Rattle.network_words.specs.Edge.{edge_at, edge_count, IsProperPair}
-use Rattle.network_words.specs.Network.{met_at}
-use Rattle.network_words.specs.Facts.{Allows, IsNetOf, met_with}
+use Rattle.network_words.specs.Network.{narrowed_at}
+use Rattle.network_words.specs.Facts.{Allows, IsNetworkOfFacts, narrowed_by}
 use Rattle.network_words.specs.NetFault.{first_fault}
 use Rattle.network_words.specs.declared.net.NetFault.TheVariants.{NoNode, SelfEdge}
 use Rattle.network_words.specs.declared.fact.Fact.{Fact}
 use Rattle.network_words.proofs.Edges.{EdgeOf, edge_of, edge_at-lt, edge_at-first, edge_at-second}
-use Rattle.network_words.proofs.Networks.{length-met_at}
-use Rattle.network_words.proofs.Meets.{length-met_with}
+use Rattle.network_words.proofs.Networks.{length-narrowed_at}
+use Rattle.network_words.proofs.Meets.{length-narrowed_by}
 
 -- ---- one net at most
 
-IsNetOf-within : (m : Meaning) (n : ℕ) (facts : List Fact) (xs ys : List ℕ) → IsNetOf m n facts xs → IsNetOf m n facts ys → (e : ℕ) → EdgeOf n e → IsWithin (slice_index xs e) (slice_index ys e)
-IsNetOf-within m n facts xs ys p q e edge =
+IsNetworkOfFacts-within : (m : Algebra) (n : ℕ) (facts : List Fact) (xs ys : List ℕ) → IsNetworkOfFacts m n facts xs → IsNetworkOfFacts m n facts ys → (e : ℕ) → EdgeOf n e → IsWithin (slice_index xs e) (slice_index ys e)
+IsNetworkOfFacts-within m n facts xs ys p q e edge =
     let within : IsWithin (slice_index xs (edge_at n edge.first edge.second)) (slice_index ys (edge_at n edge.first edge.second)) =
     record { each = λ t h. (q.members edge.first edge.second t edge.order edge.below).1 ((p.members edge.first edge.second t edge.order edge.below).0 h) } in
     subst (λ d. IsWithin (slice_index xs d) (slice_index ys d)) edge.number within
 
 -- two lists of sets that are the net of the same facts are equal
-pub IsNetOf-unique : (m : Meaning) (n : ℕ) (facts : List Fact) (xs ys : List ℕ) → IsNetOf m n facts xs → IsNetOf m n facts ys → xs ≡ ys
-IsNetOf-unique m n facts xs ys p q =
+pub IsNetworkOfFacts-unique : (m : Algebra) (n : ℕ) (facts : List Fact) (xs ys : List ℕ) → IsNetworkOfFacts m n facts xs → IsNetworkOfFacts m n facts ys → xs ≡ ys
+IsNetworkOfFacts-unique m n facts xs ys p q =
     same_number_lists xs ys (p.length_is ∙ sym q.length_is) (λ e b.
     let edge : EdgeOf n e = edge_of n e (omega (arith, p.length_is)) in
-    IsWithin-antisym _ _ (IsNetOf-within m n facts xs ys p q e edge) (IsNetOf-within m n facts ys xs q p e edge))
+    IsWithin-antisym _ _ (IsNetworkOfFacts-within m n facts xs ys p q e edge) (IsNetworkOfFacts-within m n facts ys xs q p e edge))
 
 -- ---- the net of facts, fact by fact
 
 -- with no facts each set is full
-pub IsNetOf-none : (m : Meaning) (n : ℕ) → IsNetOf m n [] (replicate (edge_count n) (full_of m))
-IsNetOf-none m n = record {
+pub IsNetworkOfFacts-none : (m : Algebra) (n : ℕ) → IsNetworkOfFacts m n [] (replicate (edge_count n) (full_of m))
+IsNetworkOfFacts-none m n = record {
   length_is = length-replicate (edge_count n) (full_of m);
   members = λ i j t o b.
       let e : slice_index (replicate (edge_count n) (full_of m)) (edge_at n i j) ≡ full_of m = get_or-replicate (edge_count n) (edge_at n i j) (full_of m) 0 (edge_at-lt n i j o b) in
@@ -56,12 +56,12 @@ met-other : (words : List ℕ) (e y d : ℕ) → d ≢ e → slice_index (slice_
 met-other words e y d differ = get_or-set_other words e d (bit_and (slice_index words e) y) 0 differ
 
 -- y says of the edge from p to q what the fact allows there, and the fact says nothing of other edges
-record Speaks (m : Meaning) (n p q y a b t : ℕ) (f : Fact) : Type 0 where
+record Speaks (m : Algebra) (n p q y a b t : ℕ) (f : Fact) : Type 0 where
   pub here : p ≡ a → q ≡ b → Has y t → Allows m a b t f
   pub back : p ≡ a → q ≡ b → Allows m a b t f → Has y t
   pub other : (p ≡ a → q ≡ b → ⊥) → Allows m a b t f
 
-met-members : (m : Meaning) (n : ℕ) (words : List ℕ) (p q y a b t : ℕ) (f : Fact) → length words ≡ edge_count n → p < q → q < n → a < b → b < n → Speaks m n p q y a b t f →
+met-members : (m : Algebra) (n : ℕ) (words : List ℕ) (p q y a b t : ℕ) (f : Fact) → length words ≡ edge_count n → p < q → q < n → a < b → b < n → Speaks m n p q y a b t f →
     Has (slice_index (slice_set words (edge_at n p q) (bit_and (slice_index words (edge_at n p q)) y)) (edge_at n a b)) t ↔ Has (slice_index words (edge_at n a b)) t × Allows m a b t f
 met-members m n words p q y a b t f l o e o' e' s = elim (cases_eq (edge_at n a b) (edge_at n p q)) [
   | inl same ↦
@@ -76,9 +76,9 @@ met-members m n words p q y a b t f l o e o' e' s = elim (cases_eq (edge_at n a 
 ]
 
 -- after a fact is met, the members are those that the fact allows too
-pub met_at-members : (m : Meaning) (n : ℕ) (words : List ℕ) (f : Fact) (a b t : ℕ) → length words ≡ edge_count n → IsProperPair n f.i f.j → a < b → b < n →
-    Has (slice_index (met_at m n words f.i f.j f.rel) (edge_at n a b)) t ↔ Has (slice_index words (edge_at n a b)) t × Allows m a b t f
-met_at-members m n words f a b t l p o e = elim (cases_lt f.i f.j) [
+pub narrowed_at-members : (m : Algebra) (n : ℕ) (words : List ℕ) (f : Fact) (a b t : ℕ) → length words ≡ edge_count n → IsProperPair n f.i f.j → a < b → b < n →
+    Has (slice_index (narrowed_at m n words f.i f.j f.rel) (edge_at n a b)) t ↔ Has (slice_index words (edge_at n a b)) t × Allows m a b t f
+narrowed_at-members m n words f a b t l p o e = elim (cases_lt f.i f.j) [
   | inl up ↦ rw (lt-ltb f.i f.j up) (met-members m n words f.i f.j f.rel a b t f l up p.second_below o e (record {
     here = λ first second h. record { straight = λ _ _. h; turned = λ x y. absurd (omega arith) };
     back = λ first second allows. allows.straight first second;
@@ -98,37 +98,37 @@ met_at-members m n words f a b t l p o e = elim (cases_lt f.i f.j) [
 pub record IsProperFact (n : ℕ) (f : Fact) : Type 0 where
   pub pair : IsProperPair n f.i f.j
 
-pub met_with-members : (m : Meaning) (n a b t : ℕ) (fs : List Fact) (words : List ℕ) → length words ≡ edge_count n → AllByRecursion (IsProperFact n) fs → a < b → b < n →
-    Has (slice_index (met_with m n words fs) (edge_at n a b)) t ↔ Has (slice_index words (edge_at n a b)) t × All (Allows m a b t) fs
-met_with-members m n a b t [] words l p o e = (λ h. (h, All-nil (Allows m a b t)), λ h. h.0)
-met_with-members m n a b t (f ∷ fs) words l p o e =
-    let one = met_at-members m n words f a b t l p.0.pair o e in
-    let more = met_with-members m n a b t fs (met_at m n words f.i f.j f.rel) (length-met_at m n words f.i f.j f.rel ∙ l) p.1 o e in (
+pub narrowed_by-members : (m : Algebra) (n a b t : ℕ) (fs : List Fact) (words : List ℕ) → length words ≡ edge_count n → AllByRecursion (IsProperFact n) fs → a < b → b < n →
+    Has (slice_index (narrowed_by m n words fs) (edge_at n a b)) t ↔ Has (slice_index words (edge_at n a b)) t × All (Allows m a b t) fs
+narrowed_by-members m n a b t [] words l p o e = (λ h. (h, All-nil (Allows m a b t)), λ h. h.0)
+narrowed_by-members m n a b t (f ∷ fs) words l p o e =
+    let one = narrowed_at-members m n words f a b t l p.0.pair o e in
+    let more = narrowed_by-members m n a b t fs (narrowed_at m n words f.i f.j f.rel) (length-narrowed_at m n words f.i f.j f.rel ∙ l) p.1 o e in (
       λ h. ((one.0 (more.0 h).0).0, All-cons (Allows m a b t) f fs (one.0 (more.0 h).0).1 (more.0 h).1),
       λ h. more.1 (one.1 (h.0, All-head (Allows m a b t) f fs h.1), All-tail (Allows m a b t) f fs h.1),
     )
 
 -- the full sets met with all facts are the net of the facts
-pub IsNetOf-met_with : (m : Meaning) (n : ℕ) (fs : List Fact) → AllByRecursion (IsProperFact n) fs → IsNetOf m n fs (met_with m n (replicate (edge_count n) (full_of m)) fs)
-IsNetOf-met_with m n fs p =
-    let start = IsNetOf-none m n in
+pub IsNetworkOfFacts-narrowed_by : (m : Algebra) (n : ℕ) (fs : List Fact) → AllByRecursion (IsProperFact n) fs → IsNetworkOfFacts m n fs (narrowed_by m n (replicate (edge_count n) (full_of m)) fs)
+IsNetworkOfFacts-narrowed_by m n fs p =
+    let start = IsNetworkOfFacts-none m n in
     record {
-      length_is = length-met_with m n (replicate (edge_count n) (full_of m)) fs ∙ start.length_is;
+      length_is = length-narrowed_by m n (replicate (edge_count n) (full_of m)) fs ∙ start.length_is;
       members = λ i j t o e.
-          let all = met_with-members m n i j t fs (replicate (edge_count n) (full_of m)) start.length_is p o e in (
+          let all = narrowed_by-members m n i j t fs (replicate (edge_count n) (full_of m)) start.length_is p o e in (
             λ h. (((start.members i j t o e).0 (all.0 h).0).0, (all.0 h).1),
             λ h. all.1 ((start.members i j t o e).1 (h.0, All-nil (Allows m i j t)), h.1),
           );
     }
 
--- one fact more behind the others
-pub met_with-push : (m : Meaning) (n : ℕ) (words : List ℕ) (fs : List Fact) (f : Fact) → met_with m n words (fs ++ f ∷ []) ≡ met_at m n (met_with m n words fs) f.i f.j f.rel
-met_with-push m n words [] f = refl
-met_with-push m n words (g ∷ fs) f = met_with-push m n (met_at m n words g.i g.j g.rel) fs f
+-- one fact more after the others
+pub narrowed_by-push : (m : Algebra) (n : ℕ) (words : List ℕ) (fs : List Fact) (f : Fact) → narrowed_by m n words (fs ++ f ∷ []) ≡ narrowed_at m n (narrowed_by m n words fs) f.i f.j f.rel
+narrowed_by-push m n words [] f = refl
+narrowed_by-push m n words (g ∷ fs) f = narrowed_by-push m n (narrowed_at m n words g.i g.j g.rel) fs f
 
 -- when every fact was met
-pub met_with-end : (m : Meaning) (n n' k : ℕ) (words words' : List ℕ) (fs : List Fact) → length fs ≤ k → met_with m n words (drop k fs) ≡ met_with m n' words' fs → words ≡ met_with m n' words' fs
-met_with-end m n n' k words words' fs h e = ap (met_with m n words) (sym (drop_of_length-le fs h)) ∙ e
+pub narrowed_by-end : (m : Algebra) (n n' k : ℕ) (words words' : List ℕ) (fs : List Fact) → length fs ≤ k → narrowed_by m n words (drop k fs) ≡ narrowed_by m n' words' fs → words ≡ narrowed_by m n' words' fs
+narrowed_by-end m n n' k words words' fs h e = ap (narrowed_by m n words) (sym (drop_of_length-le fs h)) ∙ e
 
 -- ---- facts without a fault
 
@@ -152,8 +152,8 @@ proper_at n k fs f h b e =
     (subst (IsProperFact n) (sym e) here).pair
 
 -- the full sets met with facts that have no fault are the net of the facts
-pub IsNetOf-sound : (m : Meaning) (n : ℕ) (old new : List ℕ) (fs : List Fact) → first_fault n 0 fs ≡ None → new ≡ met_with m n old fs → old ≡ replicate (edge_count n) (full_of m) → IsNetOf m n fs new
-IsNetOf-sound m n old new fs h e o = subst (IsNetOf m n fs) (sym (e ∙ ap (λ ws. met_with m n ws fs) o)) (IsNetOf-met_with m n fs (proper_facts n 0 fs h))
+pub IsNetworkOfFacts-sound : (m : Algebra) (n : ℕ) (old new : List ℕ) (fs : List Fact) → first_fault n 0 fs ≡ None → new ≡ narrowed_by m n old fs → old ≡ replicate (edge_count n) (full_of m) → IsNetworkOfFacts m n fs new
+IsNetworkOfFacts-sound m n old new fs h e o = subst (IsNetworkOfFacts m n fs) (sym (e ∙ ap (λ ws. narrowed_by m n ws fs) o)) (IsNetworkOfFacts-narrowed_by m n fs (proper_facts n 0 fs h))
 
 -- ---- one fact more
 
@@ -166,11 +166,11 @@ all-last P [] f h = All-head P f [] h
 all-last P (g ∷ fs) f h = all-last P fs f (All-tail P g (fs ++ f ∷ []) h)
 
 -- the net of facts met with one more is the net of them all
-pub IsNetOf-push : (m : Meaning) (n : ℕ) (words : List ℕ) (fs : List Fact) (f : Fact) → IsProperPair n f.i f.j → IsNetOf m n fs words → IsNetOf m n (fs ++ f ∷ []) (met_at m n words f.i f.j f.rel)
-IsNetOf-push m n words fs f p w = record {
-  length_is = length-met_at m n words f.i f.j f.rel ∙ w.length_is;
+pub IsNetworkOfFacts-push : (m : Algebra) (n : ℕ) (words : List ℕ) (fs : List Fact) (f : Fact) → IsProperPair n f.i f.j → IsNetworkOfFacts m n fs words → IsNetworkOfFacts m n (fs ++ f ∷ []) (narrowed_at m n words f.i f.j f.rel)
+IsNetworkOfFacts-push m n words fs f p w = record {
+  length_is = length-narrowed_at m n words f.i f.j f.rel ∙ w.length_is;
   members = λ i j t o e.
-      let one = met_at-members m n words f i j t w.length_is p o e in
+      let one = narrowed_at-members m n words f i j t w.length_is p o e in
       let old = w.members i j t o e in (
         λ h. ((old.0 (one.0 h).0).0, All-push (Allows m i j t) fs f (old.0 (one.0 h).0).1 (one.0 h).1),
         λ h. one.1 (old.1 (h.0, all-front (Allows m i j t) fs f h.1), all-last (Allows m i j t) fs f h.1),

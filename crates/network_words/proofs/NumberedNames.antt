@@ -11,16 +11,16 @@ use Rattle.std.proofs.lemmas.Str.{IsUtf8-had}
 use Rattle.std.proofs.lemmas.Slice.Eq.{bytes_eq-Decides}
 use Rattle.calculus_table.specs.Calculus.{AreDistinct, IsFirstRepeat}
 
--- ---- lists one behind the other
+-- ---- lists one after the other
 
 front : {X : Type 0} (xs ys : List X) (i : ℕ) → i < length xs → slice_get (xs ++ ys) i ≡ slice_get xs i
 front [] ys i h = absurd (omega arith)
 front (x ∷ xs) ys zero h = refl
 front (x ∷ xs) ys (suc i) h = front xs ys i (omega arith)
 
-behind : {X : Type 0} (xs ys : List X) (y : X) → slice_get (xs ++ y ∷ ys) (length xs) ≡ Some y
-behind [] ys y = refl
-behind (x ∷ xs) ys y = behind xs ys y
+after : {X : Type 0} (xs ys : List X) (y : X) → slice_get (xs ++ y ∷ ys) (length xs) ≡ Some y
+after [] ys y = refl
+after (x ∷ xs) ys y = after xs ys y
 
 same_some : {X : Type 0} {x y : X} → Some x ≡ Some y → x ≡ y
 same_some {X} {x} e = ap (λ o. unwrap_or o x) e
@@ -107,7 +107,7 @@ distinct-push names name d new = subst AreDistinct (sym (map-append string_bytes
       | inl here ↦ d j k less here (sym (at_j (omega arith)) ∙ same ∙ front texts (text ∷ []) k here)
       | inr last ↦
           (let end : k ≡ length texts = omega (arith, below, length_push texts text) in
-          let found : slice_get texts j ≡ Some text = sym (at_j (omega (arith, less, end))) ∙ same ∙ ap (slice_get (texts ++ text ∷ [])) end ∙ behind texts [] text in
+          let found : slice_get texts j ≡ Some text = sym (at_j (omega (arith, less, end))) ∙ same ∙ ap (slice_get (texts ++ text ∷ [])) end ∙ after texts [] text in
           absurd (true≢false (sym (stands-among text names j found) ∙ new)))
     ])
 
@@ -117,16 +117,16 @@ pub first_repeat-push : (names rest : List (String Global)) (name : String Globa
 first_repeat-push names rest name d old = subst (λ xs. IsFirstRepeat xs (length names)) (sym (map-append string_bytes names (name ∷ rest)))
     (let texts = map string_bytes names in
     let text = string_bytes name in
-    let behind_them = text ∷ map string_bytes rest in
+    let after_them = text ∷ map string_bytes rest in
     let stands = among-stands text names old in
     let size : length texts ≡ length names = length-map names string_bytes in
-    let last : slice_get (texts ++ behind_them) (length names) ≡ Some text = ap (slice_get (texts ++ behind_them)) (sym size) ∙ behind texts (map string_bytes rest) text in
+    let last : slice_get (texts ++ after_them) (length names) ≡ Some text = ap (slice_get (texts ++ after_them)) (sym size) ∙ after texts (map string_bytes rest) text in
     record {
       here = record {
-        below = slice_get_within (texts ++ behind_them) (length names) text last;
+        below = slice_get_within (texts ++ after_them) (length names) text last;
         earlier = stands.at;
         is_earlier = stands.below;
-        same = front texts behind_them stands.at (omega (arith, stands.below)) ∙ stands.there ∙ sym last;
+        same = front texts after_them stands.at (omega (arith, stands.below)) ∙ stands.there ∙ sym last;
       };
-      before = λ i j less below same. d i j less (omega arith) (sym (front texts behind_them i (omega arith)) ∙ same ∙ front texts behind_them j (omega arith));
+      before = λ i j less below same. d i j less (omega arith) (sym (front texts after_them i (omega arith)) ∙ same ∙ front texts after_them j (omega arith));
     })

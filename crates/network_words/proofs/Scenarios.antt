@@ -5,23 +5,23 @@ use Rattle.std.proofs.lemmas.Bool.{cases_lt, cases_eq}
 use Rattle.std.proofs.lemmas.List.{length-map, get_or-map}
 use Rattle.std.proofs.Math.ListN.{get_or-eq_default}
 use Rattle.calculus_table.specs.Rel.{Has, IsWithin}
-use Rattle.calculus_table.specs.Meaning.{Meaning, converse_at, entry_at}
+use Rattle.calculus_table.specs.Algebra.{Algebra, converse_at, entry_at}
 use Rattle.calculus_table.specs.Composition.{full_of, composition, converse, InComposition, InConverse}
 use Rattle.calculus_table.specs.Calculus.{IsCalculus}
 use Rattle.calculus_table.proofs.Sets.{IsWithin-trans, IsWithin-empty, empty-within, not_Has-empty, Has-single}
 use Rattle.calculus_table.proofs.Compositions.{Has-full, Has-composition, composition-member, converse-member}
 use Rattle.calculus_table.proofs.Singles.{single-within, within-single, converse-single}
 use Rattle.network_words.specs.Edge.{edge_count, edge_at, IsProperPair, IsProperTriple}
-use Rattle.network_words.specs.Network.{IsNetwork, AreWithin, set_at}
+use Rattle.network_words.specs.Network.{IsNetwork, Refines, relation_between}
 use Rattle.network_words.specs.Closure.{IsClosed, IsClosure}
 use Rattle.network_words.specs.Scenario.{IsScenario, singles}
 use Rattle.network_words.proofs.Edges.{EdgeOf, edge_of, edge_at-lt}
-use Rattle.network_words.proofs.Networks.{set_at-straight, set_at-turned, set_at-converse, IsClosed-ordered}
+use Rattle.network_words.proofs.Networks.{relation_between-straight, relation_between-turned, relation_between-converse, IsClosed-ordered}
 
 -- ---- single sets
 
 -- a base relation in the composition of two, as single sets
-single-composes : (m : Meaning) (r s t : ℕ) → r < m.size → s < m.size → t < m.size → Has (entry_at m r s) t → IsWithin (2 ^ t) (composition m (2 ^ r) (2 ^ s))
+single-composes : (m : Algebra) (r s t : ℕ) → r < m.size → s < m.size → t < m.size → Has (entry_at m r s) t → IsWithin (2 ^ t) (composition m (2 ^ r) (2 ^ s))
 single-composes m r s t a b c h = single-within t _ (Has-composition m (2 ^ r) (2 ^ s) t (record {
   first = r;
   second = s;
@@ -33,11 +33,11 @@ single-composes m r s t a b c h = single-within t _ (Has-composition m (2 ^ r) (
 -- ---- the three turns of a triple of base relations
 
 -- t in r;s gives r in t;(the converse of s)
-turn-right : (m : Meaning) (r s t : ℕ) → IsCalculus m → r < m.size → s < m.size → t < m.size → Has (entry_at m r s) t → Has (entry_at m t (converse_at m s)) r
+turn-right : (m : Algebra) (r s t : ℕ) → IsCalculus m → r < m.size → s < m.size → t < m.size → Has (entry_at m r s) t → Has (entry_at m t (converse_at m s)) r
 turn-right m r s t k a b c h = (k.cycle r s t a b c).0 h
 
 -- t in r;s gives s in (the converse of r);t
-turn-left : (m : Meaning) (r s t : ℕ) → IsCalculus m → r < m.size → s < m.size → t < m.size → Has (entry_at m r s) t → Has (entry_at m (converse_at m r) t) s
+turn-left : (m : Algebra) (r s t : ℕ) → IsCalculus m → r < m.size → s < m.size → t < m.size → Has (entry_at m r s) t → Has (entry_at m (converse_at m r) t) s
 turn-left m r s t k a b c h =
     let r' = converse_at m r in
     let s' = converse_at m s in
@@ -61,24 +61,24 @@ single-index : (bases : List ℕ) (e : ℕ) → e < length bases → slice_index
 single-index bases e l = get_or-map (λ r. 2 ^ r) bases e 0 0 l
 
 -- what a scenario says of the pair of two nodes, either way round
-record PairOf (m : Meaning) (n : ℕ) (bases : List ℕ) (i j : ℕ) : Type 0 where
-  straight : set_at m n (singles bases) i j ≡ 2 ^ slice_index bases (edge_at n i j)
-  turned : set_at m n (singles bases) j i ≡ 2 ^ converse_at m (slice_index bases (edge_at n i j))
+record PairOf (m : Algebra) (n : ℕ) (bases : List ℕ) (i j : ℕ) : Type 0 where
+  straight : relation_between m n (singles bases) i j ≡ 2 ^ slice_index bases (edge_at n i j)
+  turned : relation_between m n (singles bases) j i ≡ 2 ^ converse_at m (slice_index bases (edge_at n i j))
   below : slice_index bases (edge_at n i j) < m.size
 
-pair_of : (m : Meaning) (n : ℕ) (words bases : List ℕ) (i j : ℕ) → IsScenario m n words bases → i < j → j < n → PairOf m n bases i j
+pair_of : (m : Algebra) (n : ℕ) (words bases : List ℕ) (i j : ℕ) → IsScenario m n words bases → i < j → j < n → PairOf m n bases i j
 pair_of m n words bases i j s o b =
     let l : edge_at n i j < edge_count n = edge_at-lt n i j o b in
     let e : slice_index (singles bases) (edge_at n i j) ≡ 2 ^ slice_index bases (edge_at n i j) = single-index bases (edge_at n i j) (omega (arith, s.length_is)) in
     let below = s.below (edge_at n i j) l in
     record {
-      straight = set_at-straight m n (singles bases) i j o ∙ e;
-      turned = set_at-turned m n (singles bases) j i (omega arith) ∙ ap (converse m) e ∙ converse-single m (slice_index bases (edge_at n i j)) below;
+      straight = relation_between-straight m n (singles bases) i j o ∙ e;
+      turned = relation_between-turned m n (singles bases) j i (omega arith) ∙ ap (converse m) e ∙ converse-single m (slice_index bases (edge_at n i j)) below;
       below = below;
     }
 
 -- a scenario as single sets is a network within the words
-pub IsNetwork-singles : (m : Meaning) (n : ℕ) (words bases : List ℕ) → IsScenario m n words bases → IsNetwork m n (singles bases)
+pub IsNetwork-singles : (m : Algebra) (n : ℕ) (words bases : List ℕ) → IsScenario m n words bases → IsNetwork m n (singles bases)
 IsNetwork-singles m n words bases s = record {
   length_is = length-singles bases ∙ s.length_is;
   within = λ e. elim (cases_lt e (length bases)) [
@@ -87,15 +87,15 @@ IsNetwork-singles m n words bases s = record {
   ];
 }
 
-pub AreWithin-singles : (m : Meaning) (n : ℕ) (words bases : List ℕ) → IsScenario m n words bases → AreWithin (singles bases) words
-AreWithin-singles m n words bases s = record {
+pub Refines-singles : (m : Algebra) (n : ℕ) (words bases : List ℕ) → IsScenario m n words bases → Refines (singles bases) words
+Refines-singles m n words bases s = record {
   each = λ e. elim (cases_lt e (length bases)) [
     | inl l ↦ rw (single-index bases e l) (single-within _ _ (s.member e (omega (arith, s.length_is))))
     | inr o ↦ rw (singles_past bases e o) (IsWithin-empty _)
   ];
 }
 
-pub IsClosed-singles : (m : Meaning) (n : ℕ) (words bases : List ℕ) → IsCalculus m → IsScenario m n words bases → IsClosed m n (singles bases)
+pub IsClosed-singles : (m : Algebra) (n : ℕ) (words bases : List ℕ) → IsCalculus m → IsScenario m n words bases → IsClosed m n (singles bases)
 IsClosed-singles m n words bases k s = IsClosed-ordered m n (singles bases) k (IsNetwork-singles m n words bases s) (λ i j l p o.
     let base = λ (a b : ℕ). slice_index bases (edge_at n a b) in
     let il = pair_of m n words bases i l s o p.third_below in
@@ -121,7 +121,7 @@ IsClosed-singles m n words bases k s = IsClosed-ordered m n (singles bases) k (I
     ])
 
 -- a scenario of a network is one of each network that holds its single sets
-IsScenario-within : (m : Meaning) (n : ℕ) (words others bases : List ℕ) → IsScenario m n words bases → AreWithin (singles bases) others → IsScenario m n others bases
+IsScenario-within : (m : Algebra) (n : ℕ) (words others bases : List ℕ) → IsScenario m n words bases → Refines (singles bases) others → IsScenario m n others bases
 IsScenario-within m n words others bases s w = record {
   length_is = s.length_is;
   below = s.below;
@@ -129,62 +129,62 @@ IsScenario-within m n words others bases s w = record {
   composes = s.composes;
 }
 
-pub IsScenario-closure : (m : Meaning) (n : ℕ) (words closure bases : List ℕ) → IsCalculus m → IsNetwork m n words → IsClosure m n words closure → IsScenario m n words bases ↔ IsScenario m n closure bases
+pub IsScenario-closure : (m : Algebra) (n : ℕ) (words closure bases : List ℕ) → IsCalculus m → IsNetwork m n words → IsClosure m n words closure → IsScenario m n words bases ↔ IsScenario m n closure bases
 IsScenario-closure m n words closure bases k net c = (
   λ s. IsScenario-within m n words closure bases s
-      (c.greatest (singles bases) (length-singles bases ∙ s.length_is ∙ sym net.length_is) (IsClosed-singles m n words bases k s) (AreWithin-singles m n words bases s)),
+      (c.greatest (singles bases) (length-singles bases ∙ s.length_is ∙ sym net.length_is) (IsClosed-singles m n words bases k s) (Refines-singles m n words bases s)),
   λ s. IsScenario-within m n closure words bases s
-      (record { each = λ e. IsWithin-trans _ _ _ ((AreWithin-singles m n closure bases s).each e) (c.within.each e) }),
+      (record { each = λ e. IsWithin-trans _ _ _ ((Refines-singles m n closure bases s).each e) (c.within.each e) }),
 )
 
 -- ---- empty sets
 
-composition-empty_l : (m : Meaning) (b : ℕ) → IsCalculus m → composition m 0 b ≡ 0
+composition-empty_l : (m : Algebra) (b : ℕ) → IsCalculus m → composition m 0 b ≡ 0
 composition-empty_l m b k = empty-within _ (record {
   each = λ t h. let i : InComposition m 0 b t = composition-member m 0 b t k.table h in absurd (not_Has-empty i.first i.first_in);
 })
 
-pub converse-empty : (m : Meaning) → converse m 0 ≡ 0
+pub converse-empty : (m : Algebra) → converse m 0 ≡ 0
 converse-empty m = empty-within _ (record {
   each = λ t h. let i : InConverse m 0 t = converse-member m 0 t h in absurd (not_Has-empty i.base i.base_in);
 })
 
-pub turned-empty : (m : Meaning) (n : ℕ) (words : List ℕ) (i j : ℕ) → IsCalculus m → IsNetwork m n words → i ≢ j → set_at m n words i j ≡ 0 → set_at m n words j i ≡ 0
-turned-empty m n words i j k net d e = set_at-converse m n words i j k net d ∙ ap (converse m) e ∙ converse-empty m
+pub turned-empty : (m : Algebra) (n : ℕ) (words : List ℕ) (i j : ℕ) → IsCalculus m → IsNetwork m n words → i ≢ j → relation_between m n words i j ≡ 0 → relation_between m n words j i ≡ 0
+turned-empty m n words i j k net d e = relation_between-converse m n words i j k net d ∙ ap (converse m) e ∙ converse-empty m
 
 -- an empty set on the way empties the set along it
-along-empty : (m : Meaning) (n : ℕ) (words : List ℕ) (i j l : ℕ) → IsCalculus m → IsClosed m n words → IsProperTriple n i j l → set_at m n words i j ≡ 0 → set_at m n words i l ≡ 0
+along-empty : (m : Algebra) (n : ℕ) (words : List ℕ) (i j l : ℕ) → IsCalculus m → IsClosed m n words → IsProperTriple n i j l → relation_between m n words i j ≡ 0 → relation_between m n words i l ≡ 0
 along-empty m n words i j l k c p e =
-    empty-within _ (subst (IsWithin (set_at m n words i l)) (ap (λ x. composition m x (set_at m n words j l)) e ∙ composition-empty_l m (set_at m n words j l) k) (c.each i j l p))
+    empty-within _ (subst (IsWithin (relation_between m n words i l)) (ap (λ x. composition m x (relation_between m n words j l)) e ∙ composition-empty_l m (relation_between m n words j l) k) (c.each i j l p))
 
 -- where one pair of a node is empty, each of its pairs is
-node-empty : (m : Meaning) (n : ℕ) (words : List ℕ) (i j l : ℕ) → IsCalculus m → IsClosed m n words → IsProperPair n i j → IsProperPair n i l → set_at m n words i j ≡ 0 → set_at m n words i l ≡ 0
+node-empty : (m : Algebra) (n : ℕ) (words : List ℕ) (i j l : ℕ) → IsCalculus m → IsClosed m n words → IsProperPair n i j → IsProperPair n i l → relation_between m n words i j ≡ 0 → relation_between m n words i l ≡ 0
 node-empty m n words i j l k c p q e = elim (cases_eq j l) [
-  | inl same ↦ subst (λ x. set_at m n words i x ≡ 0) same e
+  | inl same ↦ subst (λ x. relation_between m n words i x ≡ 0) same e
   | inr differ ↦ along-empty m n words i j l k c
       (record { first_below = p.first_below; second_below = p.second_below; third_below = q.second_below; first_second = p.differ; second_third = differ; first_third = q.differ }) e
 ]
 
-pair-empty : (m : Meaning) (n : ℕ) (words : List ℕ) (i j a b : ℕ) → IsCalculus m → IsNetwork m n words → IsClosed m n words → IsProperPair n i j → IsProperPair n a b → set_at m n words i j ≡ 0 → set_at m n words a b ≡ 0
+pair-empty : (m : Algebra) (n : ℕ) (words : List ℕ) (i j a b : ℕ) → IsCalculus m → IsNetwork m n words → IsClosed m n words → IsProperPair n i j → IsProperPair n a b → relation_between m n words i j ≡ 0 → relation_between m n words a b ≡ 0
 pair-empty m n words i j a b k net c p q e = elim (cases_eq a i) [
   | inl same ↦ rw same (node-empty m n words i j b k c p
       (record { first_below = p.first_below; second_below = q.second_below; differ = λ h. q.differ (same ∙ h) }) e)
   | inr differ ↦
-      (let ia : set_at m n words i a ≡ 0 = node-empty m n words i j a k c p
+      (let ia : relation_between m n words i a ≡ 0 = node-empty m n words i j a k c p
       (record { first_below = p.first_below; second_below = q.first_below; differ = λ h. differ (sym h) }) e in
       node-empty m n words a i b k c
       (record { first_below = q.first_below; second_below = p.first_below; differ = differ }) q
       (turned-empty m n words i a k net (λ h. differ (sym h)) ia))
 ]
 
-pub closed-empty : (m : Meaning) (n e : ℕ) (words : List ℕ) → IsCalculus m → IsNetwork m n words → IsClosed m n words → e < edge_count n → slice_index words e ≡ 0 → (d : ℕ) → slice_index words d ≡ 0
+pub closed-empty : (m : Algebra) (n e : ℕ) (words : List ℕ) → IsCalculus m → IsNetwork m n words → IsClosed m n words → e < edge_count n → slice_index words e ≡ 0 → (d : ℕ) → slice_index words d ≡ 0
 closed-empty m n e words k net c l h d = elim (cases_lt d (edge_count n)) [
   | inl b ↦
       (let f : EdgeOf n e = edge_of n e l in
       let g : EdgeOf n d = edge_of n d b in
       let p : IsProperPair n f.first f.second = record { first_below = omega (arith, f.order, f.below); second_below = f.below; differ = λ x. absurd (omega (arith, f.order)) } in
       let q : IsProperPair n g.first g.second = record { first_below = omega (arith, g.order, g.below); second_below = g.below; differ = λ x. absurd (omega (arith, g.order)) } in
-      let at_f : set_at m n words f.first f.second ≡ 0 = set_at-straight m n words f.first f.second f.order ∙ ap (slice_index words) f.number ∙ h in
-      sym (set_at-straight m n words g.first g.second g.order ∙ ap (slice_index words) g.number) ∙ pair-empty m n words f.first f.second g.first g.second k net c p q at_f)
+      let at_f : relation_between m n words f.first f.second ≡ 0 = relation_between-straight m n words f.first f.second f.order ∙ ap (slice_index words) f.number ∙ h in
+      sym (relation_between-straight m n words g.first g.second g.order ∙ ap (slice_index words) g.number) ∙ pair-empty m n words f.first f.second g.first g.second k net c p q at_f)
   | inr o ↦ get_or-eq_default words 0 (omega (arith, net.length_is))
 ]

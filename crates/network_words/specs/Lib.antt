@@ -6,6 +6,6 @@ pub mod NetFault
 pub mod Scenario
 pub mod Laws
 pub use Rattle.calculus_table.specs.Rel
-pub use Rattle.calculus_table.specs.Meaning
+pub use Rattle.calculus_table.specs.Algebra
 pub use Rattle.calculus_table.specs.Composition
 pub use Rattle.calculus_table.specs.Calculus

@@ -1,7 +1,7 @@
 -- Networks of sets of base relations, one set for each pair of nodes.
 use Rattle.std.specs.Prelude.{◌≡◌, ℕ, ◌<◌, ◌≤◌, List, length, nat_lt, if◌then◌else◌, slice_index, slice_set, bit_and}
 use Rattle.calculus_table.specs.Rel.{IsWithin}
-use Rattle.calculus_table.specs.Meaning.{Meaning}
+use Rattle.calculus_table.specs.Algebra.{Algebra}
 use Rattle.calculus_table.specs.Composition.{full_of, converse}
 use Rattle.calculus_table.specs.Calculus.{AreDistinct}
 use Rattle.network_words.specs.Edge.{edge_count, edge_at}
@@ -16,24 +16,24 @@ pub record Network : Type 0 where
   pub names : List (List ℕ)
 
 -- a set of base relations for each edge
-pub record IsNetwork (m : Meaning) (n : ℕ) (words : List ℕ) : Type 0 where
+pub record IsNetwork (m : Algebra) (n : ℕ) (words : List ℕ) : Type 0 where
   pub length_is : length words ≡ edge_count n
   pub within : (e : ℕ) → IsWithin (slice_index words e) (full_of m)
 
 -- the set of the pair (i, j): its edge's set, or the converse of that where the pair is the other way round
-abbrev pub set_at : Meaning → ℕ → List ℕ → ℕ → ℕ → ℕ
-set_at m n words i j =
+abbrev pub relation_between : Algebra → ℕ → List ℕ → ℕ → ℕ → ℕ
+relation_between m n words i j =
     if nat_lt i j then slice_index words (edge_at n i j) else converse m (slice_index words (edge_at n j i))
 
 -- the network in which the set of the pair (i, j) is met with x
-abbrev pub met_at : Meaning → ℕ → List ℕ → ℕ → ℕ → ℕ → List ℕ
-met_at m n words i j x =
+abbrev pub narrowed_at : Algebra → ℕ → List ℕ → ℕ → ℕ → ℕ → List ℕ
+narrowed_at m n words i j x =
     if nat_lt i j
     then slice_set words (edge_at n i j) (bit_and (slice_index words (edge_at n i j)) x)
     else slice_set words (edge_at n j i) (bit_and (slice_index words (edge_at n j i)) (converse m x))
 
 -- every set of the first is within that of the second
-pub record AreWithin (xs ys : List ℕ) : Type 0 where
+pub record Refines (xs ys : List ℕ) : Type 0 where
   pub each : (e : ℕ) → IsWithin (slice_index xs e) (slice_index ys e)
 
 -- what every network of the code keeps: at least one node and no more than the limit, a set for each edge, and names that

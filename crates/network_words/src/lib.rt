@@ -13,4 +13,4 @@ pub use laws::laws_of_networks;
 pub use net::{Net, NetFault};
 
 /// The greatest number of nodes that a network may have.
-pub const MAX_NODES: u32 = 128;
+pub const MAX_NODES: u32 = 256;

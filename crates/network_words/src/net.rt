@@ -46,12 +46,12 @@ impl Net {
     ghost use Rattle.std.specs.Prelude.{◌≡◌, ◌≢◌, ℕ, ◌<◌, ◌≤◌, ◌^◌, ◌↔◌, ◌⊎◌, [], All, length, map, replicate, slice_index, slice_set, IfOk, IfErr, OnOk, OnErr, IsErrOf, MatchOption, slice_get, Some, None};
     ghost use Rattle.std.specs.String.{string_bytes};
     ghost use Rattle.calculus_table.specs.Calculus.{AreDistinct};
-    ghost use Rattle.network_words.specs.Facts.{IsNetOf, met_with};
+    ghost use Rattle.network_words.specs.Facts.{IsNetworkOfFacts, narrowed_by};
     ghost use Rattle.network_words.specs.NetFault.{IsNamesFaultOf, first_fault};
     ghost use Rattle.calculus_table.specs.Rel.{IsWithin};
     ghost use Rattle.calculus_table.specs.Composition.{full_of};
     ghost use Rattle.network_words.specs.Edge.{edge_count, edge_at, IsProperPair};
-    ghost use Rattle.network_words.specs.Network.{Network, IsNetwork, IsShaped, set_at, met_at};
+    ghost use Rattle.network_words.specs.Network.{Network, IsNetwork, IsShaped, relation_between, narrowed_at};
 
     /// A network without names, whose every set is `full`.
     pub fn new(alloc: Global, nodes: u32, full: Rel) -> Result<Net, NetFault>
@@ -182,9 +182,9 @@ impl Net {
     /// The set of the pair `(i, j)`, turned by the converse where `i > j`.
     pub fn get<C: Compose>(&self, c: &C, i: u32, j: u32) -> Rel
         requires proper { IsProperPair self.now.nodes i j }
-        requires within { IsNetwork (C.meaning c.now) self.now.nodes self.now.words }
-        ensures value { result ≡ set_at (C.meaning c.now) self.now.nodes self.now.words i j }
-        ensures within { IsWithin result (full_of (C.meaning c.now)) }
+        requires within { IsNetwork (C.algebra c.now) self.now.nodes self.now.words }
+        ensures value { result ≡ relation_between (C.algebra c.now) self.now.nodes self.now.words i j }
+        ensures within { IsWithin result (full_of (C.algebra c.now)) }
     {
         if i < j {
             self.word(self.edge(i, j))
@@ -196,8 +196,8 @@ impl Net {
     /// Meets the set of the pair `(i, j)` with `rel`.
     pub fn narrow<C: Compose>(&mut self, c: &C, i: u32, j: u32, rel: Rel)
         requires proper { IsProperPair self.old.nodes i j }
-        requires within { IsWithin rel (full_of (C.meaning c.now)) }
-        ensures { self.new ≡ record self.old { words = met_at (C.meaning c.now) self.old.nodes self.old.words i j rel } }
+        requires within { IsWithin rel (full_of (C.algebra c.now)) }
+        ensures { self.new ≡ record self.old { words = narrowed_at (C.algebra c.now) self.old.nodes self.old.words i j rel } }
     {
         let (edge, rel) = if i < j {
             (self.edge(i, j), rel)
@@ -210,10 +210,10 @@ impl Net {
     /// Meets the set of each fact's pair with the fact's set.
     pub fn add_facts<C: Compose>(&mut self, c: &C, facts: &[Fact]) -> Result<(), NetFault>
         requires few { length facts.now < 2 ^ 32 }
-        requires within { All (λ fact. IsWithin fact.rel (full_of (C.meaning c.now))) facts.now }
-        ensures ok { OnOk result (self.new ≡ record self.old { words = met_with (C.meaning c.now) self.old.nodes self.old.words facts.now }) }
-        ensures net { OnOk result (self.old.words ≡ replicate (edge_count self.old.nodes) (full_of (C.meaning c.now))
-            → IsNetOf (C.meaning c.now) self.old.nodes facts.now self.new.words) }
+        requires within { All (λ fact. IsWithin fact.rel (full_of (C.algebra c.now))) facts.now }
+        ensures ok { OnOk result (self.new ≡ record self.old { words = narrowed_by (C.algebra c.now) self.old.nodes self.old.words facts.now }) }
+        ensures net { OnOk result (self.old.words ≡ replicate (edge_count self.old.nodes) (full_of (C.algebra c.now))
+            → IsNetworkOfFacts (C.algebra c.now) self.old.nodes facts.now self.new.words) }
 
         // A fault comes exactly where a fact has one, and it is that of the first such fact.
         ensures proper { OnOk result (first_fault self.old.nodes 0 facts.now ≡ None) }

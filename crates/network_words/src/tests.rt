@@ -29,7 +29,7 @@ fn fact(i: u32, j: u32, word: u64) -> Fact {
 }
 
 fn are_within(c: &Calculus, facts: &[Fact]) -> bool
-    ensures { IsTrue result → All (λ fact. IsWithin fact.rel (full_of c.now.meaning)) facts.now }
+    ensures { IsTrue result → All (λ fact. IsWithin fact.rel (full_of c.now.algebra)) facts.now }
 {
     for fact in facts {
         if !fact.rel.within(c.full()) {

@@ -5,26 +5,26 @@ use Rattle.std.proofs.lemmas.List.{drop-drop, drop_at, take-append-drop, take-ap
 use Rattle.std.proofs.lemmas.Bool.Decides.{nat_tests}
 use Rattle.qsr_lex.specs.Bytes.{is_blank}
 use Rattle.qsr_lex.specs.TextLines.{text_lines, outside}
-use Rattle.qsr_lex.specs.Lexemes.{Lexeme, lexemes, lexemes_behind, tail_len, kind_of}
-use Rattle.qsr_lex.specs.Tokens.{tokens_behind, tokens_of_lines, tokens_of}
+use Rattle.qsr_lex.specs.Lexemes.{Lexeme, lexemes, lexemes_after, tail_len, kind_of}
+use Rattle.qsr_lex.specs.Tokens.{tokens_after, tokens_of_lines, tokens_of}
 use Rattle.qsr_lex.specs.TokenLines.{TokenLine, add_line, add_word, by_line, lexeme_of, token_lines, token_lines_from}
 use Rattle.qsr_lex.specs.declared.tokens.Token.{Token}
 use Rattle.qsr_lex.proofs.Scanning.{outside-take}
 use Rattle.qsr_lex.proofs.Spans.{concat-text_lines, tail_len-le}
 
--- the lines come behind line n
-abbrev pub AreBehind : ℕ → List TokenLine → Type 0
-AreBehind n [] = Unit {0}
-AreBehind n (l ∷ ls) = n < l.number
+-- the lines come after line n
+abbrev pub AreAfter : ℕ → List TokenLine → Type 0
+AreAfter n [] = Unit {0}
+AreAfter n (l ∷ ls) = n < l.number
 
-AreBehind-add_line : (n m : ℕ) (xs : List Lexeme) (ls : List TokenLine) → n < m → AreBehind n ls → AreBehind n (add_line m xs ls)
-AreBehind-add_line n m [] ls h k = k
-AreBehind-add_line n m (x ∷ xs) ls h k = h
+AreAfter-add_line : (n m : ℕ) (xs : List Lexeme) (ls : List TokenLine) → n < m → AreAfter n ls → AreAfter n (add_line m xs ls)
+AreAfter-add_line n m [] ls h k = k
+AreAfter-add_line n m (x ∷ xs) ls h k = h
 
-AreBehind-token_lines : (n m : ℕ) (ls : List (List ℕ)) → n < m → AreBehind n (token_lines_from m ls)
-AreBehind-token_lines n m [] h = tt
-AreBehind-token_lines n m (l ∷ ls) h =
-    AreBehind-add_line n m (lexemes (outside l)) (token_lines_from (m + 1) ls) h (AreBehind-token_lines n (m + 1) ls (omega arith))
+AreAfter-token_lines : (n m : ℕ) (ls : List (List ℕ)) → n < m → AreAfter n (token_lines_from m ls)
+AreAfter-token_lines n m [] h = tt
+AreAfter-token_lines n m (l ∷ ls) h =
+    AreAfter-add_line n m (lexemes (outside l)) (token_lines_from (m + 1) ls) h (AreAfter-token_lines n (m + 1) ls (omega arith))
 
 same_number : (n : ℕ) → (n == n) ≡ true
 same_number n = grind (arith, nat_tests)
@@ -32,7 +32,7 @@ same_number n = grind (arith, nat_tests)
 other_number : (m n : ℕ) → n < m → (m == n) ≡ false
 other_number m n h = grind (arith, nat_tests)
 
-add_word-add_line : (n : ℕ) (x : Lexeme) (ys : List Lexeme) (ls : List TokenLine) → AreBehind n ls → add_word n x (add_line n ys ls) ≡ add_line n (x ∷ ys) ls
+add_word-add_line : (n : ℕ) (x : Lexeme) (ys : List Lexeme) (ls : List TokenLine) → AreAfter n ls → add_word n x (add_line n ys ls) ≡ add_line n (x ∷ ys) ls
 add_word-add_line n x [] [] h = refl
 add_word-add_line n x [] (l ∷ ls) h =
     ap (λ c. cond c (record { number = n; words = x ∷ l.words } ∷ ls) (record { number = n; words = x ∷ [] } ∷ l ∷ ls)) (other_number l.number n h)
@@ -51,30 +51,30 @@ token_text at t b whole bs more h short =
     ap (λ k. take k (drop at whole)) n ∙ ap (take (suc t)) h ∙ ap (λ xs. b ∷ xs) (take-append-le t bs more short)
 
 by_line-here : (c : Bool) (whole : List ℕ) (n : ℕ) (t : Token) (y : Lexeme) (ts us : List Token) (ys : List Lexeme) (ls : List TokenLine)
-    → t.line ≡ n → lexeme_of whole t ≡ y → by_line whole (ts ++ us) ≡ add_line n ys ls → AreBehind n ls
+    → t.line ≡ n → lexeme_of whole t ≡ y → by_line whole (ts ++ us) ≡ add_line n ys ls → AreAfter n ls
     → by_line whole ((cond c [] (t ∷ []) ++ ts) ++ us) ≡ add_line n (cond c [] (y ∷ []) ++ ys) ls
-by_line-here true whole n t y ts us ys ls same_line text told behind = told
-by_line-here false whole n t y ts us ys ls same_line text told behind =
+by_line-here true whole n t y ts us ys ls same_line text told after = told
+by_line-here false whole n t y ts us ys ls same_line text told after =
     ap (λ m. add_word m (lexeme_of whole t) (by_line whole (ts ++ us))) same_line
     ∙ ap (λ x. add_word n x (by_line whole (ts ++ us))) text
     ∙ ap (add_word n y) told
-    ∙ add_word-add_line n y ys ls behind
+    ∙ add_word-add_line n y ys ls after
 
 by_line-part : (whole : List ℕ) (n at skip : ℕ) (part more : List ℕ) (us : List Token) (ls : List TokenLine)
-    → drop at whole ≡ part ++ more → by_line whole us ≡ ls → AreBehind n ls
-    → by_line whole (tokens_behind n at skip part ++ us) ≡ add_line n (lexemes_behind skip part) ls
-by_line-part whole n at skip [] more us ls place told behind = told
-by_line-part whole n at (suc skip) (b ∷ bs) more us ls place told behind =
-    by_line-part whole n (at + 1) skip bs more us ls (drop_next at b whole (bs ++ more) place) told behind
-by_line-part whole n at zero (b ∷ bs) more us ls place told behind =
+    → drop at whole ≡ part ++ more → by_line whole us ≡ ls → AreAfter n ls
+    → by_line whole (tokens_after n at skip part ++ us) ≡ add_line n (lexemes_after skip part) ls
+by_line-part whole n at skip [] more us ls place told after = told
+by_line-part whole n at (suc skip) (b ∷ bs) more us ls place told after =
+    by_line-part whole n (at + 1) skip bs more us ls (drop_next at b whole (bs ++ more) place) told after
+by_line-part whole n at zero (b ∷ bs) more us ls place told after =
     let t = tail_len (b ∷ bs) in
     by_line-here (is_blank b) whole n
     (record { line = n; start = at; end = at + (1 + t); kind = kind_of (b ∷ bs) })
     (record { kind = kind_of (b ∷ bs); text = b ∷ take t bs })
-    (tokens_behind n (at + 1) t bs) us (lexemes_behind t bs) ls refl
+    (tokens_after n (at + 1) t bs) us (lexemes_after t bs) ls refl
     (ap (λ text. record { kind = kind_of (b ∷ bs); text = text }) (token_text at t b whole bs more place (tail_len-le b bs)))
-    (by_line-part whole n (at + 1) t bs more us ls (drop_next at b whole (bs ++ more) place) told behind)
-    behind
+    (by_line-part whole n (at + 1) t bs more us ls (drop_next at b whole (bs ++ more) place) told after)
+    after
 
 pub line_parts : (l rest : List ℕ) → l ++ rest ≡ outside l ++ (drop (length (outside l)) l ++ rest)
 line_parts l rest =
@@ -91,7 +91,7 @@ by_line-lines whole more n at (l ∷ ls) place =
     let rest = flat_map (λ k. k) ls ++ more in
     let from_here : drop at whole ≡ l ++ rest = place ∙ append_assoc l (flat_map (λ k. k) ls) more in
     by_line-part whole n at 0 (outside l) (drop (length (outside l)) l ++ rest) (tokens_of_lines (n + 1) (at + length l) ls) (token_lines_from (n + 1) ls)
-    (from_here ∙ line_parts l rest) (by_line-lines whole more (n + 1) (at + length l) ls (next_line at whole l rest from_here)) (AreBehind-token_lines n (n + 1) ls (omega arith))
+    (from_here ∙ line_parts l rest) (by_line-lines whole more (n + 1) (at + length l) ls (next_line at whole l rest from_here)) (AreAfter-token_lines n (n + 1) ls (omega arith))
 
 -- the tokens of the front of a text, line by line, are its lines with tokens
 pub by_line-tokens_of : (bytes front more : List ℕ) → bytes ≡ front ++ more → by_line bytes (tokens_of front) ≡ token_lines front

@@ -8,7 +8,7 @@ use Rattle.std.proofs.lemmas.List.Elements.{filter-append}
 use Rattle.qsr_lex.specs.Bytes.{is_blank, is_mark, is_hash, is_word_byte}
 use Rattle.qsr_lex.specs.TextLines.{text_lines, outside}
 use Rattle.qsr_lex.specs.Lexemes.{tail_len, kind_of, starts_with_colon}
-use Rattle.qsr_lex.specs.Tokens.{tokens_behind, tokens_of_lines, tokens_of, token_bytes, shown_bytes, is_shown}
+use Rattle.qsr_lex.specs.Tokens.{tokens_after, tokens_of_lines, tokens_of, token_bytes, shown_bytes, is_shown}
 use Rattle.qsr_lex.specs.declared.tokens.Token.{Token}
 use Rattle.qsr_lex.proofs.Spans.{concat-text_lines, tail_len-le}
 use Rattle.qsr_lex.proofs.Grouping.{drop_next, token_text, line_parts, next_line}
@@ -56,7 +56,7 @@ tail_shown false false bs h = refl
 token_shown : (b : ℕ) (bs : List ℕ) → take (tail_len (b ∷ bs)) bs ++ filter is_shown (drop (tail_len (b ∷ bs)) bs) ≡ filter is_shown bs
 token_shown b bs = tail_shown (is_word_byte b) ((b == 58) && starts_with_colon bs) bs (second_colon (b == 58) bs)
 
--- the token at the front, and those behind it
+-- the token at the front, and those after it
 bytes_here : (c : Bool) (whole : List ℕ) (t : Token) (ts : List Token) (b n : ℕ) (bs : List ℕ) → is_blank b ≡ c
     → take (t.end - t.start) (drop t.start whole) ≡ b ∷ take n bs
     → token_bytes whole ts ≡ filter is_shown (drop n bs) → (c ≡ true → n ≡ 0)
@@ -69,13 +69,13 @@ bytes_here false whole t ts b n bs blank text told none shown =
     ∙ ap (λ c. cond (not c) (b ∷ filter is_shown bs) (filter is_shown bs)) (sym blank)
 
 token_bytes-part : (whole : List ℕ) (n at skip : ℕ) (part more : List ℕ) → drop at whole ≡ part ++ more
-    → token_bytes whole (tokens_behind n at skip part) ≡ filter is_shown (drop skip part)
+    → token_bytes whole (tokens_after n at skip part) ≡ filter is_shown (drop skip part)
 token_bytes-part whole n at zero [] more place = refl
 token_bytes-part whole n at (suc skip) [] more place = refl
 token_bytes-part whole n at (suc skip) (b ∷ bs) more place = token_bytes-part whole n (at + 1) skip bs more (drop_next at b whole (bs ++ more) place)
 token_bytes-part whole n at zero (b ∷ bs) more place =
     let t = tail_len (b ∷ bs) in
-    bytes_here (is_blank b) whole (record { line = n; start = at; end = at + (1 + t); kind = kind_of (b ∷ bs) }) (tokens_behind n (at + 1) t bs) b t bs refl
+    bytes_here (is_blank b) whole (record { line = n; start = at; end = at + (1 + t); kind = kind_of (b ∷ bs) }) (tokens_after n (at + 1) t bs) b t bs refl
     (token_text at t b whole bs more place (tail_len-le b bs)) (token_bytes-part whole n (at + 1) t bs more (drop_next at b whole (bs ++ more) place))
     (blank_tail b bs) (token_shown b bs)
 
@@ -85,7 +85,7 @@ token_bytes-lines whole more n at [] place = refl
 token_bytes-lines whole more n at (l ∷ ls) place =
     let rest = flat_map (λ k. k) ls ++ more in
     let from_here : drop at whole ≡ l ++ rest = place ∙ append_assoc l (flat_map (λ k. k) ls) more in
-    flat_map-append (λ t. take (t.end - t.start) (drop t.start whole)) (tokens_behind n at 0 (outside l)) (tokens_of_lines (n + 1) (at + length l) ls)
+    flat_map-append (λ t. take (t.end - t.start) (drop t.start whole)) (tokens_after n at 0 (outside l)) (tokens_of_lines (n + 1) (at + length l) ls)
     ∙ ap (λ xs. xs ++ token_bytes whole (tokens_of_lines (n + 1) (at + length l) ls))
     (token_bytes-part whole n at 0 (outside l) (drop (length (outside l)) l ++ rest) (from_here ∙ line_parts l rest))
     ∙ ap (λ xs. filter is_shown (outside l) ++ xs) (token_bytes-lines whole more (n + 1) (at + length l) ls (next_line at whole l rest from_here))

@@ -6,7 +6,7 @@ use Rattle.std.proofs.lemmas.Bool.{and_parts}
 use Rattle.std.proofs.lemmas.Bool.Decides.{nat_tests}
 use Rattle.qsr_lex.specs.Bytes.{is_lf, is_hash, is_blank, is_mark, is_allowed, is_word_byte}
 use Rattle.qsr_lex.specs.TextLines.{add_byte, text_lines, starts_with_lf, starts_with_end, outside, is_clean, bad_line_from}
-use Rattle.qsr_lex.specs.Lexemes.{lexemes, lexemes_behind, tail_len, kind_of, starts_with_colon}
+use Rattle.qsr_lex.specs.Lexemes.{lexemes, lexemes_after, tail_len, kind_of, starts_with_colon}
 use Rattle.qsr_lex.specs.declared.tokens.TokenKind.{TokenKind}
 use Rattle.qsr_lex.specs.declared.tokens.TokenKind.TheVariants.{Word, Open, Close, Comma, Colon, Colons, Stop}
 use Rattle.qsr_lex.specs.TokenLines.{token_lines_from, add_line}
@@ -143,21 +143,21 @@ kind_of-before b bs rest ends =
     ap (λ c. kind_by b c (prefix_len is_word_byte (bs ++ rest) == 0)) (same_colon bs rest ends)
     ∙ ap (λ c. kind_by b (starts_with_colon bs) c) (same_stop bs rest ends)
 
-lexemes_behind-all : (bs rest : List ℕ) → lexemes_behind (length bs) (bs ++ rest) ≡ lexemes_behind 0 rest
-lexemes_behind-all [] rest = refl
-lexemes_behind-all (b ∷ bs) rest = lexemes_behind-all bs rest
+lexemes_after-all : (bs rest : List ℕ) → lexemes_after (length bs) (bs ++ rest) ≡ lexemes_after 0 rest
+lexemes_after-all [] rest = refl
+lexemes_after-all (b ∷ bs) rest = lexemes_after-all bs rest
 
--- a token, and what stands behind it
-lexemes-token : (b : ℕ) (bs rest : List ℕ) → IsToken b bs → Ends rest → lexemes_behind 0 (b ∷ (bs ++ rest)) ≡ lexeme_from (b ∷ bs) ∷ lexemes_behind 0 rest
+-- a token, and what stands after it
+lexemes-token : (b : ℕ) (bs rest : List ℕ) → IsToken b bs → Ends rest → lexemes_after 0 (b ∷ (bs ++ rest)) ≡ lexeme_from (b ∷ bs) ∷ lexemes_after 0 rest
 lexemes-token b bs rest is ends =
     let long = is.tail rest ends in
-    ap (λ c. cond c [] (record { kind = kind_of (b ∷ (bs ++ rest)); text = b ∷ take (tail_len (b ∷ (bs ++ rest))) (bs ++ rest) } ∷ []) ++ lexemes_behind (tail_len (b ∷ (bs ++ rest))) (bs ++ rest)) is.blank
-    ∙ ap (λ n. record { kind = kind_of (b ∷ (bs ++ rest)); text = b ∷ take n (bs ++ rest) } ∷ lexemes_behind n (bs ++ rest)) long
-    ∙ ap (λ k. record { kind = k; text = b ∷ take (length bs) (bs ++ rest) } ∷ lexemes_behind (length bs) (bs ++ rest)) (kind_of-before b bs rest ends)
-    ∙ ap (λ text. record { kind = kind_of (b ∷ bs); text = b ∷ text } ∷ lexemes_behind (length bs) (bs ++ rest)) (take_at bs rest (length bs) refl)
-    ∙ ap (λ xs. lexeme_from (b ∷ bs) ∷ xs) (lexemes_behind-all bs rest)
+    ap (λ c. cond c [] (record { kind = kind_of (b ∷ (bs ++ rest)); text = b ∷ take (tail_len (b ∷ (bs ++ rest))) (bs ++ rest) } ∷ []) ++ lexemes_after (tail_len (b ∷ (bs ++ rest))) (bs ++ rest)) is.blank
+    ∙ ap (λ n. record { kind = kind_of (b ∷ (bs ++ rest)); text = b ∷ take n (bs ++ rest) } ∷ lexemes_after n (bs ++ rest)) long
+    ∙ ap (λ k. record { kind = k; text = b ∷ take (length bs) (bs ++ rest) } ∷ lexemes_after (length bs) (bs ++ rest)) (kind_of-before b bs rest ends)
+    ∙ ap (λ text. record { kind = kind_of (b ∷ bs); text = b ∷ text } ∷ lexemes_after (length bs) (bs ++ rest)) (take_at bs rest (length bs) refl)
+    ∙ ap (λ xs. lexeme_from (b ∷ bs) ∷ xs) (lexemes_after-all bs rest)
 
-lexemes-first : (w rest : List ℕ) → is_token_text w ≡ true → Ends rest → lexemes_behind 0 (w ++ rest) ≡ lexeme_from w ∷ lexemes_behind 0 rest
+lexemes-first : (w rest : List ℕ) → is_token_text w ≡ true → Ends rest → lexemes_after 0 (w ++ rest) ≡ lexeme_from w ∷ lexemes_after 0 rest
 lexemes-first [] rest h ends = cc
 lexemes-first (b ∷ bs) rest h ends = lexemes-token b bs rest (IsToken-from_test b bs h) ends
 
@@ -166,7 +166,7 @@ pub lexemes-spaced : (ws : List (List ℕ)) → list_all is_token_text ws ≡ tr
 lexemes-spaced [] h = refl
 lexemes-spaced (w ∷ []) h =
     let parts = and_parts (is_token_text w) true h in
-    ap (lexemes_behind 0) (sym (append-nil w)) ∙ lexemes-first w [] parts.0 (record { word = refl; colon = refl })
+    ap (lexemes_after 0) (sym (append-nil w)) ∙ lexemes-first w [] parts.0 (record { word = refl; colon = refl })
 lexemes-spaced (w ∷ v ∷ ws) h =
     let parts = and_parts (is_token_text w) (list_all is_token_text (v ∷ ws)) h in
     lexemes-first w (32 ∷ spaced (v ∷ ws)) parts.0 (record { word = refl; colon = refl })

@@ -57,14 +57,14 @@ run_of-front t us =
     further ∙ ap (λ c. cond c (1 + run_of t.line us) 0) (sym (eq-eqb t.line t.line refl))
 
 -- the first line of tokens has those that stand in the line of the first token
-pub by_line-front : (bytes : List ℕ) (n k : ℕ) (ts here behind : List Token) (d : Token)
-    → 0 < length ts → n ≡ (get_or ts 0 d).line → k ≡ run_of n ts → here ≡ take k ts → behind ≡ drop k ts
-    → by_line bytes ts ≡ token_line n (words_of bytes here) ∷ by_line bytes behind
-by_line-front bytes n k [] here behind d some is_line is_run is_here is_behind = absurd (omega arith)
-by_line-front bytes n k (t ∷ us) here behind d some is_line is_run is_here is_behind =
+pub by_line-front : (bytes : List ℕ) (n k : ℕ) (ts here after : List Token) (d : Token)
+    → 0 < length ts → n ≡ (get_or ts 0 d).line → k ≡ run_of n ts → here ≡ take k ts → after ≡ drop k ts
+    → by_line bytes ts ≡ token_line n (words_of bytes here) ∷ by_line bytes after
+by_line-front bytes n k [] here after d some is_line is_run is_here is_after = absurd (omega arith)
+by_line-front bytes n k (t ∷ us) here after d some is_line is_run is_here is_after =
     let run : k ≡ run_of t.line (t ∷ us) = is_run ∙ ap (λ m. run_of m (t ∷ us)) is_line in
     by_line-front_line bytes t us
     ∙ ap (λ j. token_line t.line (words_of bytes (take j (t ∷ us))) ∷ by_line bytes (drop j (t ∷ us))) (run_of-front t us ∙ sym run)
     ∙ ap (λ m. token_line m (words_of bytes (take k (t ∷ us))) ∷ by_line bytes (drop k (t ∷ us))) (sym is_line)
     ∙ ap (λ xs. token_line n (words_of bytes xs) ∷ by_line bytes (drop k (t ∷ us))) (sym is_here)
-    ∙ ap (λ xs. token_line n (words_of bytes here) ∷ by_line bytes xs) (sym is_behind)
+    ∙ ap (λ xs. token_line n (words_of bytes here) ∷ by_line bytes xs) (sym is_after)

@@ -4,7 +4,7 @@ use Rattle.std.proofs.lemmas.List.{drop_more, append-nil}
 use Rattle.qsr_lex.specs.Bytes.{is_lf}
 use Rattle.qsr_lex.specs.TextLines.{add_byte, text_lines, first_line_len, starts_with_end, outside, is_clean, clean_front, bad_line_from}
 use Rattle.qsr_lex.specs.Lexemes.{tail_len}
-use Rattle.qsr_lex.specs.Tokens.{token_here, tokens_behind, tokens_of_lines}
+use Rattle.qsr_lex.specs.Tokens.{token_here, tokens_after, tokens_of_lines}
 use Rattle.qsr_lex.specs.declared.tokens.Token.{Token}
 
 -- what stands outside comments is the front of the line
@@ -25,31 +25,31 @@ length-outside-le [] = omega arith
 length-outside-le (b ∷ bs) = length_outside-byte (starts_with_end (b ∷ bs)) b bs (outside bs) (length-outside-le bs)
 
 -- bytes that belong to a token before are passed over
-pub tokens_behind-skip : (line at skip : ℕ) (bs : List ℕ) → tokens_behind line at skip bs ≡ tokens_behind line (at + skip) 0 (drop skip bs)
-tokens_behind-skip line at zero bs = let e : at ≡ at + 0 = omega arith in ap (λ n. tokens_behind line n 0 bs) e
-tokens_behind-skip line at (suc skip) [] = refl
-tokens_behind-skip line at (suc skip) (b ∷ bs) =
+pub tokens_after-skip : (line at skip : ℕ) (bs : List ℕ) → tokens_after line at skip bs ≡ tokens_after line (at + skip) 0 (drop skip bs)
+tokens_after-skip line at zero bs = let e : at ≡ at + 0 = omega arith in ap (λ n. tokens_after line n 0 bs) e
+tokens_after-skip line at (suc skip) [] = refl
+tokens_after-skip line at (suc skip) (b ∷ bs) =
     let e : at + 1 + skip ≡ at + suc skip = omega arith in
-    tokens_behind-skip line (at + 1) skip bs ∙ ap (λ n. tokens_behind line n 0 (drop skip bs)) e
+    tokens_after-skip line (at + 1) skip bs ∙ ap (λ n. tokens_after line n 0 (drop skip bs)) e
 
-behind_token : (line at t b : ℕ) (bs : List ℕ) → tokens_behind line (at + 1 + t) 0 (drop t bs) ≡ tokens_behind line (at + (1 + t)) 0 (drop (1 + t) (b ∷ bs))
-behind_token line at t b bs =
+after_token : (line at t b : ℕ) (bs : List ℕ) → tokens_after line (at + 1 + t) 0 (drop t bs) ≡ tokens_after line (at + (1 + t)) 0 (drop (1 + t) (b ∷ bs))
+after_token line at t b bs =
     let further : suc t ≡ 1 + t = omega arith in
     let place : at + 1 + t ≡ at + (1 + t) = omega arith in
-    ap (λ n. tokens_behind line n 0 (drop t bs)) place ∙ ap (λ n. tokens_behind line (at + (1 + t)) 0 (drop n (b ∷ bs))) further
+    ap (λ n. tokens_after line n 0 (drop t bs)) place ∙ ap (λ n. tokens_after line (at + (1 + t)) 0 (drop n (b ∷ bs))) further
 
--- the token at the front, and those behind it
-pub tokens_behind-front : (line at : ℕ) (bs : List ℕ) → 0 < length bs → tokens_behind line at 0 bs ≡ token_here line at bs ++ tokens_behind line (at + (1 + tail_len bs)) 0 (drop (1 + tail_len bs) bs)
-tokens_behind-front line at [] h = absurd (omega arith)
-tokens_behind-front line at (b ∷ bs) h =
-    ap (λ ts. token_here line at (b ∷ bs) ++ ts) (tokens_behind-skip line (at + 1) (tail_len (b ∷ bs)) bs ∙ behind_token line at (tail_len (b ∷ bs)) b bs)
+-- the token at the front, and those after it
+pub tokens_after-front : (line at : ℕ) (bs : List ℕ) → 0 < length bs → tokens_after line at 0 bs ≡ token_here line at bs ++ tokens_after line (at + (1 + tail_len bs)) 0 (drop (1 + tail_len bs) bs)
+tokens_after-front line at [] h = absurd (omega arith)
+tokens_after-front line at (b ∷ bs) h =
+    ap (λ ts. token_here line at (b ∷ bs) ++ ts) (tokens_after-skip line (at + 1) (tail_len (b ∷ bs)) bs ∙ after_token line at (tail_len (b ∷ bs)) b bs)
 
 -- an LF is a line of its own
 pub add_byte-lf : (b : ℕ) (ls : List (List ℕ)) → is_lf b ≡ true → add_byte b ls ≡ (b ∷ []) ∷ ls
 add_byte-lf b [] h = refl
 add_byte-lf b (l ∷ ls) h = ap (λ c. cond c ((b ∷ []) ∷ l ∷ ls) ((b ∷ l) ∷ ls)) h
 
--- the first line, and those behind it
+-- the first line, and those after it
 text_lines-byte : (c : Bool) (b n : ℕ) (bs : List ℕ) → text_lines bs ≡ take n bs ∷ text_lines (drop n bs)
     → cond c ((b ∷ []) ∷ take n bs ∷ text_lines (drop n bs)) ((b ∷ take n bs) ∷ text_lines (drop n bs)) ≡ take (cond c 1 (1 + n)) (b ∷ bs) ∷ text_lines (drop (cond c 1 (1 + n)) (b ∷ bs))
 text_lines-byte true b n bs h = ap (λ ls. (b ∷ []) ∷ ls) (sym h)
@@ -90,7 +90,7 @@ length_outside-drop xs i within open_part =
     let e = drop_more xs i 0 within in
     ap (λ ys. length (outside ys)) e ∙ length_outside-front (get_or xs i 0) (drop (i + 1) xs) (ap starts_with_end (sym e) ∙ open_part)
 
--- the next line is clean, so the clean lines are that one and those behind it
+-- the next line is clean, so the clean lines are that one and those after it
 clean_front-step : (rest line after : List ℕ) → 0 < length rest
     → line ≡ take (first_line_len rest) rest → after ≡ drop (first_line_len rest) rest
     → is_clean line ≡ true → clean_front (text_lines rest) ≡ line ∷ clean_front (text_lines after)
@@ -102,21 +102,21 @@ clean_front-step rest line after some is_line is_after clean =
 pub clean_front-none : (rest line : List ℕ) → 0 < length rest
     → line ≡ take (first_line_len rest) rest → is_clean line ≡ false → clean_front (text_lines rest) ≡ []
 clean_front-none rest line some is_line bad =
-    let behind = text_lines (drop (first_line_len rest) rest) in
-    ap clean_front (text_lines-front rest some ∙ ap (λ l. l ∷ behind) (sym is_line)) ∙ ap (λ c. cond c (line ∷ clean_front behind) []) bad
+    let after = text_lines (drop (first_line_len rest) rest) in
+    ap clean_front (text_lines-front rest some ∙ ap (λ l. l ∷ after) (sym is_line)) ∙ ap (λ c. cond c (line ∷ clean_front after) []) bad
 
--- the tokens so far, those of the next line, and those of the lines behind it
+-- the tokens so far, those of the next line, and those of the lines after it
 pub tokens-step : (sofar now all : List Token) (n at next : ℕ) (rest line part after : List ℕ)
     → sofar ++ tokens_of_lines n at (clean_front (text_lines rest)) ≡ all → 0 < length rest
     → line ≡ take (first_line_len rest) rest → after ≡ drop (first_line_len rest) rest → is_clean line ≡ true
     → part ≡ outside line → next ≡ at + length line
-    → now ≡ sofar ++ tokens_behind n at 0 part → now ++ tokens_of_lines (n + 1) next (clean_front (text_lines after)) ≡ all
+    → now ≡ sofar ++ tokens_after n at 0 part → now ++ tokens_of_lines (n + 1) next (clean_front (text_lines after)) ≡ all
 tokens-step sofar now all n at next rest line part after told some is_line is_after clean is_part is_next pushed =
     let front = ap (tokens_of_lines n at) (clean_front-step rest line after some is_line is_after clean) in
-    let regrouped = append_assoc sofar (tokens_behind n at 0 part) (tokens_of_lines (n + 1) next (clean_front (text_lines after))) in
+    let regrouped = append_assoc sofar (tokens_after n at 0 part) (tokens_of_lines (n + 1) next (clean_front (text_lines after))) in
     cc (front, regrouped)
 
--- the next line is clean, so a bad one comes behind it
+-- the next line is clean, so a bad one comes after it
 pub bad-step : (n : ℕ) (rest line after : List ℕ) → 0 < length rest
     → line ≡ take (first_line_len rest) rest → after ≡ drop (first_line_len rest) rest
     → is_clean line ≡ true → bad_line_from n (text_lines rest) ≡ bad_line_from (n + 1) (text_lines after)
@@ -140,14 +140,14 @@ count-step rest line after some is_line is_after clean =
     let further : suc (length (clean_front (text_lines after))) ≡ 1 + length (clean_front (text_lines after)) = omega arith in
     ap length (clean_front-step rest line after some is_line is_after clean) ∙ further
 
--- the tokens so far, the one at the front, and those behind it
+-- the tokens so far, the one at the front, and those after it
 pub line_tokens-step : (sofar now all : List Token) (n at taken : ℕ) (rest after : List ℕ)
-    → sofar ++ tokens_behind n at 0 rest ≡ all → 0 < length rest
+    → sofar ++ tokens_after n at 0 rest ≡ all → 0 < length rest
     → taken ≡ 1 + tail_len rest → after ≡ drop taken rest
-    → now ≡ sofar ++ token_here n at rest → now ++ tokens_behind n (at + taken) 0 after ≡ all
+    → now ≡ sofar ++ token_here n at rest → now ++ tokens_after n (at + taken) 0 after ≡ all
 line_tokens-step sofar now all n at taken rest after told some is_taken is_after pushed =
-    let front = tokens_behind-front n at rest some in
-    let regrouped = append_assoc sofar (token_here n at rest) (tokens_behind n (at + taken) 0 after) in
+    let front = tokens_after-front n at rest some in
+    let regrouped = append_assoc sofar (token_here n at rest) (tokens_after n (at + taken) 0 after) in
     cc (front, regrouped)
 
 -- nothing is left

@@ -1,4 +1,4 @@
--- Tokens stand one behind the other, and the lines are as many as their ends.
+-- Tokens stand one after the other, and the lines are as many as their ends.
 use Rattle.std.proofs.Common.{◌≡◌, ℕ, zero, suc, ◌+◌, ◌==◌, ◌&&◌, ◌<◌, ◌≤◌, Bool, true, false, not, cond, List, [], ◌∷◌, ◌++◌, length, subst, refl, sym, ap, ◌∙◌, arith}
 use Rattle.std.proofs.lemmas.List.Sums.{prefix_len-le-length, sum_by-cons}
 use Rattle.std.proofs.lemmas.List.{length-append}
@@ -6,7 +6,7 @@ use Rattle.std.specs.List.{prefix_len, flat_map}
 use Rattle.qsr_lex.specs.Bytes.{is_lf, is_blank, is_word_byte}
 use Rattle.qsr_lex.specs.TextLines.{add_byte, text_lines, outside, line_count}
 use Rattle.qsr_lex.specs.Lexemes.{tail_len, kind_of, starts_with_colon}
-use Rattle.qsr_lex.specs.Tokens.{tokens_behind, tokens_of_lines, AreApart, tokens_of}
+use Rattle.qsr_lex.specs.Tokens.{tokens_after, tokens_of_lines, AreApart, tokens_of}
 use Rattle.qsr_lex.specs.declared.tokens.Token.{Token}
 use Rattle.qsr_lex.proofs.Scanning.{length-outside-le}
 
@@ -24,12 +24,12 @@ two_colons false bs h = cc
 pub tail_len-le : (b : ℕ) (bs : List ℕ) → tail_len (b ∷ bs) ≤ length bs
 tail_len-le b bs = tail_len-byte (is_word_byte b) ((b == 58) && starts_with_colon bs) (prefix_len is_word_byte bs) (length bs) (prefix_len-le-length is_word_byte bs) (two_colons (b == 58) bs)
 
--- what stands apart behind an offset stands behind an earlier one
+-- what stands apart after an offset stands after an earlier one
 pub AreApart-earlier : (from from' to : ℕ) (ts : List Token) → from ≤ from' → AreApart from' ts to → AreApart from ts to
 AreApart-earlier from from' to [] h a = tt
 AreApart-earlier from from' to (t ∷ ts) h a = (omega arith, a.1, a.2, a.3)
 
--- what stands apart up to an offset, and what stands apart behind it
+-- what stands apart up to an offset, and what stands apart after it
 pub AreApart-append : (from mid to : ℕ) (ts us : List Token) → from ≤ mid → mid ≤ to → AreApart from ts mid → AreApart mid us to → AreApart from (ts ++ us) to
 AreApart-append from mid to [] us h k a b = AreApart-earlier from mid to us h b
 AreApart-append from mid to (t ∷ ts) us h k a b = (a.0, a.1, omega (arith, a.2), AreApart-append t.end mid to ts us a.2 k a.3 b)
@@ -45,13 +45,13 @@ AreApart-here true from at to k t us s e h fits a = AreApart-earlier from (at + 
 AreApart-here false from at to k t us s e h fits a = (omega arith, omega arith, omega arith, subst (λ m. AreApart m us to) (sym e) a)
 
 -- the tokens of a part of a line stand apart
-pub AreApart-part : (n from at skip to : ℕ) (part : List ℕ) → from ≤ at + skip → skip ≤ length part → at + length part ≡ to → AreApart from (tokens_behind n at skip part) to
+pub AreApart-part : (n from at skip to : ℕ) (part : List ℕ) → from ≤ at + skip → skip ≤ length part → at + length part ≡ to → AreApart from (tokens_after n at skip part) to
 AreApart-part n from at skip to [] h within is_end = tt
 AreApart-part n from at (suc skip) to (b ∷ bs) h within is_end = AreApart-part n from (at + 1) skip to bs (omega arith) (omega arith) (omega arith)
 AreApart-part n from at zero to (b ∷ bs) h within is_end =
     let t = tail_len (b ∷ bs) in
     let short = tail_len-le b bs in
-    AreApart-here (is_blank b) from at to t (record { line = n; start = at; end = at + (1 + t); kind = kind_of (b ∷ bs) }) (tokens_behind n (at + 1) t bs)
+    AreApart-here (is_blank b) from at to t (record { line = n; start = at; end = at + (1 + t); kind = kind_of (b ∷ bs) }) (tokens_after n (at + 1) t bs)
     refl refl (omega arith) (omega arith) (AreApart-part n (at + (1 + t)) (at + 1) t to bs (omega arith) short (omega arith))
 
 -- the tokens of lines stand apart
@@ -60,7 +60,7 @@ AreApart-lines n at to [] h = tt
 AreApart-lines n at to (l ∷ ls) h =
     let whole = length-append l (flat_map (λ k. k) ls) in
     let inside = length-outside-le l in
-    AreApart-append at (at + length (outside l)) to (tokens_behind n at 0 (outside l)) (tokens_of_lines (n + 1) (at + length l) ls)
+    AreApart-append at (at + length (outside l)) to (tokens_after n at 0 (outside l)) (tokens_of_lines (n + 1) (at + length l) ls)
     (omega arith) (omega arith) (AreApart-part n at at 0 (at + length (outside l)) (outside l) (omega arith) (omega arith) refl)
     (AreApart-earlier (at + length (outside l)) (at + length l) to (tokens_of_lines (n + 1) (at + length l) ls) (omega arith)
     (AreApart-lines (n + 1) (at + length l) to ls (omega arith)))

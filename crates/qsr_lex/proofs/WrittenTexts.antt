@@ -1,4 +1,4 @@
--- Texts that are written piece by piece, and names with a space behind each.
+-- Texts that are written piece by piece, and names with a space after each.
 use Rattle.std.proofs.Common.{◌≡◌, ℕ, zero, suc, ◌+◌, ◌<◌, ◌≤◌, List, [], ◌∷◌, ◌++◌, length, take, codes, slice_get, unwrap_or, refl, sym, ◌∙◌, ap, arith, add-one, append_assoc, append-nil}
 use Rattle.std.specs.List.{flat_map}
 use Rattle.std.proofs.lemmas.Grind.{flat_map-append}
@@ -12,7 +12,7 @@ pub text_below-more : (n : ℕ) (f : ℕ → List ℕ) → text_below (n + 1) f 
 unfolding text_below
 text_below-more n f = rw add-one refl
 
--- one more text behind what was written
+-- one more text after what was written
 pub more_written : (old now next : List ℕ) (n : ℕ) (f : ℕ → List ℕ) → now ≡ old ++ text_below n f → next ≡ now ++ f n → next ≡ old ++ text_below (n + 1) f
 more_written old now next n f e h = h ∙ ap (λ x. x ++ f n) e ∙ append_assoc old (text_below n f) (f n) ∙ ap (λ x. old ++ x) (sym (text_below-more n f))
 
@@ -30,7 +30,7 @@ text_below-empty (suc n) f h = rw (text_below-empty n f (λ k b. h k (omega arit
 pub empty_written : (old : List ℕ) (n : ℕ) (f : ℕ → List ℕ) → ((k : ℕ) → k < n → f k ≡ []) → old ≡ old ++ text_below n f
 empty_written old n f h = sym (ap (λ x. old ++ x) (text_below-empty n f h) ∙ append-nil old)
 
--- words, each with a space behind
+-- words, each with a space after
 abbrev pub spaces : List (List ℕ) → List ℕ
 spaces words = flat_map (λ w. w ++ codes " ") words
 

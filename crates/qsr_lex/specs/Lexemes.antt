@@ -10,7 +10,7 @@ abbrev pub starts_with_colon : List ℕ → Bool
 starts_with_colon [] = false
 starts_with_colon (b ∷ bs) = b == 58
 
--- how many bytes behind the first one belong to the token at the front: two colons are one token, and a word is a
+-- how many bytes after the first one belong to the token at the front: two colons are one token, and a word is a
 -- longest run of its bytes
 abbrev pub tail_len : List ℕ → ℕ
 tail_len [] = 0
@@ -41,12 +41,12 @@ lexeme_here (b ∷ bs) =
     if is_blank b then []
     else record { kind = kind_of (b ∷ bs); text = b ∷ take (tail_len (b ∷ bs)) bs } ∷ []
 
--- the tokens behind `skip` bytes that belong to a token before
-abbrev pub lexemes_behind : ℕ → List ℕ → List Lexeme
-lexemes_behind skip [] = []
-lexemes_behind zero (b ∷ bs) = lexeme_here (b ∷ bs) ++ lexemes_behind (tail_len (b ∷ bs)) bs
-lexemes_behind (suc skip) (b ∷ bs) = lexemes_behind skip bs
+-- the tokens after `skip` bytes that belong to a token before
+abbrev pub lexemes_after : ℕ → List ℕ → List Lexeme
+lexemes_after skip [] = []
+lexemes_after zero (b ∷ bs) = lexeme_here (b ∷ bs) ++ lexemes_after (tail_len (b ∷ bs)) bs
+lexemes_after (suc skip) (b ∷ bs) = lexemes_after skip bs
 
 -- the tokens of the bytes, from the left
 abbrev pub lexemes : List ℕ → List Lexeme
-lexemes bytes = lexemes_behind 0 bytes
+lexemes bytes = lexemes_after 0 bytes

@@ -3,12 +3,12 @@ use Rattle.std.specs.Prelude.{ℕ, ◌+◌, List, [], ◌∷◌, Bool, true, fal
 use Rattle.std.specs.List.{list_all, flat_map}
 use Rattle.qsr_lex.specs.Bytes.{is_lf, is_hash, is_allowed}
 
--- one byte more in front of the lines: an LF is a line of its own, any other byte belongs to the line behind it
+-- one byte more in front of the lines: an LF is a line of its own, any other byte belongs to the line after it
 abbrev pub add_byte : ℕ → List (List ℕ) → List (List ℕ)
 add_byte b [] = (b ∷ []) ∷ []
 add_byte b (l ∷ ls) = if is_lf b then (b ∷ []) ∷ l ∷ ls else (b ∷ l) ∷ ls
 
--- the text cut behind each LF; the last line may lack its LF
+-- the text cut after each LF; the last line may lack its LF
 abbrev pub text_lines : List ℕ → List (List ℕ)
 text_lines [] = []
 text_lines (b ∷ bs) = add_byte b (text_lines bs)

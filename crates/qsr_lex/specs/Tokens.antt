@@ -13,28 +13,28 @@ token_here line at (b ∷ bs) =
     if is_blank b then []
     else record { line = line; start = at; end = at + (1 + tail_len (b ∷ bs)); kind = kind_of (b ∷ bs) } ∷ []
 
--- the tokens behind `skip` bytes that belong to a token before
-abbrev pub tokens_behind : ℕ → ℕ → ℕ → List ℕ → List Token
-tokens_behind line at skip [] = []
-tokens_behind line at zero (b ∷ bs) = token_here line at (b ∷ bs) ++ tokens_behind line (at + 1) (tail_len (b ∷ bs)) bs
-tokens_behind line at (suc skip) (b ∷ bs) = tokens_behind line (at + 1) skip bs
+-- the tokens after `skip` bytes that belong to a token before
+abbrev pub tokens_after : ℕ → ℕ → ℕ → List ℕ → List Token
+tokens_after line at skip [] = []
+tokens_after line at zero (b ∷ bs) = token_here line at (b ∷ bs) ++ tokens_after line (at + 1) (tail_len (b ∷ bs)) bs
+tokens_after line at (suc skip) (b ∷ bs) = tokens_after line (at + 1) skip bs
 
 -- the tokens of the lines, of which the first has this number and begins with byte `at` of the text
 abbrev pub tokens_of_lines : ℕ → ℕ → List (List ℕ) → List Token
 tokens_of_lines line at [] = []
-tokens_of_lines line at (l ∷ ls) = tokens_behind line at 0 (outside l) ++ tokens_of_lines (line + 1) (at + length l) ls
+tokens_of_lines line at (l ∷ ls) = tokens_after line at 0 (outside l) ++ tokens_of_lines (line + 1) (at + length l) ls
 
 -- the tokens of a text, in order
 abbrev pub tokens_of : List ℕ → List Token
 tokens_of bytes = tokens_of_lines 1 0 (text_lines bytes)
 
--- the tokens stand one behind the other between these two offsets: none is empty, and none begins before the one
+-- the tokens stand one after the other between these two offsets: none is empty, and none begins before the one
 -- before it has ended
 abbrev pub AreApart : ℕ → List Token → ℕ → Type 0
 AreApart from [] to = Unit {0}
 AreApart from (t ∷ ts) to = (from ≤ t.start) × (t.start < t.end) × (t.end ≤ to) × AreApart t.end ts to
 
--- the bytes of the tokens, one token behind the other
+-- the bytes of the tokens, one token after the other
 abbrev pub token_bytes : List ℕ → List Token → List ℕ
 token_bytes bytes ts = flat_map (λ t. slice_range bytes t.start t.end) ts
 

@@ -17,7 +17,7 @@ is_same_kind Colons Colons = true
 is_same_kind Stop Stop = true
 is_same_kind _ _ = false
 
--- a word at the front, and what stands behind it
+-- a word at the front, and what stands after it
 abbrev pub word_at : List Lexeme → Option (List ℕ × List Lexeme)
 word_at [] = None
 word_at (x ∷ xs) = if is_same_kind x.kind Word then Some (x.text, xs) else None
@@ -26,40 +26,40 @@ word_at (x ∷ xs) = if is_same_kind x.kind Word then Some (x.text, xs) else Non
 abbrev pub is_name_token : Lexeme → Bool
 is_name_token x = is_same_kind x.kind Word && is_name x.text
 
--- a name at the front, and what stands behind it
+-- a name at the front, and what stands after it
 abbrev pub name_at : List Lexeme → Option (List ℕ × List Lexeme)
 name_at [] = None
 name_at (x ∷ xs) = if is_name_token x then Some (x.text, xs) else None
 
--- what stands behind a token of this kind
-abbrev pub behind_kind : TokenKind → List Lexeme → Option (List Lexeme)
-behind_kind kind [] = None
-behind_kind kind (x ∷ xs) = if is_same_kind x.kind kind then Some xs else None
+-- what stands after a token of this kind
+abbrev pub after_kind : TokenKind → List Lexeme → Option (List Lexeme)
+after_kind kind [] = None
+after_kind kind (x ∷ xs) = if is_same_kind x.kind kind then Some xs else None
 
 -- the token is this word
 abbrev pub is_word_token : List ℕ → Lexeme → Bool
 is_word_token text x = is_same_kind x.kind Word && bytes_eq x.text text
 
--- what stands behind this word
-abbrev pub behind_word : List ℕ → List Lexeme → Option (List Lexeme)
-behind_word text [] = None
-behind_word text (x ∷ xs) = if is_word_token text x then Some xs else None
+-- what stands after this word
+abbrev pub after_word : List ℕ → List Lexeme → Option (List Lexeme)
+after_word text [] = None
+after_word text (x ∷ xs) = if is_word_token text x then Some xs else None
 
--- the names in front of a closing bracket, and what stands behind it
+-- the names in front of a closing bracket, and what stands after it
 abbrev pub names_before_close : List Lexeme → Option (List (List ℕ) × List Lexeme)
 names_before_close [] = None
 names_before_close (x ∷ xs) =
     if is_same_kind x.kind Close then Some ([], xs)
     else (if is_name_token x then option_map (λ found. (x.text ∷ found.0, found.1)) (names_before_close xs) else None)
 
--- a set at the front: names in brackets, and what stands behind them
+-- a set at the front: names in brackets, and what stands after them
 abbrev pub names_at : List Lexeme → Option (List (List ℕ) × List Lexeme)
-names_at xs = option_and_then names_before_close (behind_kind Open xs)
+names_at xs = option_and_then names_before_close (after_kind Open xs)
 
 -- the first of the lines begins with this word
 abbrev pub begins_with : List ℕ → List TokenLine → Bool
 begins_with text [] = false
-begins_with text (l ∷ ls) = is_some (behind_word text l.words)
+begins_with text (l ∷ ls) = is_some (after_word text l.words)
 
 -- what is found first goes on into the second
 infixl 10 ◌>>=◌
@@ -71,7 +71,7 @@ abbrev pub at_end : {A : Type 0} → A → List Lexeme → Option A
 at_end a [] = Some a
 at_end a (x ∷ xs) = None
 
--- nothing stands behind what was found
+-- nothing stands after what was found
 abbrev pub ends_there : Option (List Lexeme) → Bool
 ends_there (Some []) = true
 ends_there (Some (x ∷ xs)) = false
@@ -79,4 +79,4 @@ ends_there None = false
 
 -- `.` alone
 abbrev pub is_end_line : List Lexeme → Bool
-is_end_line words = ends_there (behind_kind Stop words)
+is_end_line words = ends_there (after_kind Stop words)

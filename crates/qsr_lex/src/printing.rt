@@ -4,7 +4,7 @@ ghost use Rattle.std.specs.List.{list_all};
 ghost use Rattle.qsr_lex.specs.Names.{is_name};
 ghost use Rattle.qsr_lex.specs.Printed.{are_tokens, IsReadAgain, IsPrintedName, IsPrintedNumber, IsPrintedSet};
 
-/// Lines of tokens that are printed with one space between tokens, and an LF behind each line, are
+/// Lines of tokens that are printed with one space between tokens, and an LF after each line, are
 /// read as these tokens.
 pub fn printed_text_is_read_again()
     ensures { (text : List (List (List ℕ))) → list_all are_tokens text ≡ true → IsReadAgain text }

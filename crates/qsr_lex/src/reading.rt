@@ -4,7 +4,7 @@ ghost use Rattle.std.specs.List.{prefix_len};
 ghost use Rattle.qsr_lex.specs.Names.{is_name};
 ghost use Rattle.qsr_lex.specs.Tokens.{AreApart};
 ghost use Rattle.qsr_lex.specs.TokenLines.{by_line, token_line, lexeme_of};
-ghost use Rattle.qsr_lex.specs.Words.{word_at, name_at, names_at, begins_with, behind_kind, behind_word, is_same_kind, is_name_token, is_word_token};
+ghost use Rattle.qsr_lex.specs.Words.{word_at, name_at, names_at, begins_with, after_kind, after_word, is_same_kind, is_name_token, is_word_token};
 ghost use Rattle.qsr_lex.specs.declared.tokens.TokenKind.TheVariants.{Word};
 
 use crate::names::is_name;
@@ -77,7 +77,7 @@ impl<'a> LineReader<'a> {
         LineReader { bytes, tokens }
     }
 
-    /// Goes behind the next line that has tokens, and gives it.
+    /// Goes after the next line that has tokens, and gives it.
     pub fn next_line(&mut self) -> Option<TextLine<'a>>
         ensures { MatchOption result ((self.old ≡ []) × (self.new ≡ []))
             (λ line. self.old ≡ token_line line.number line.words ∷ self.new) }
@@ -86,8 +86,8 @@ impl<'a> LineReader<'a> {
             [] => None,
             [first, ..] => {
                 let number = first.line;
-                let (here, behind) = self.tokens.split_at(run_len(self.tokens, number));
-                self.tokens = behind;
+                let (here, after) = self.tokens.split_at(run_len(self.tokens, number));
+                self.tokens = after;
                 Some(TextLine {
                     number,
                     words: WordReader {
@@ -120,64 +120,64 @@ impl<'a> WordReader<'a> {
         self.tokens.is_empty()
     }
 
-    /// Goes behind the next token where it is a word, and gives its text.
+    /// Goes after the next token where it is a word, and gives its text.
     pub fn word(&mut self) -> Option<&'a [u8]>
         ensures { MatchOption result ((word_at self.old ≡ None) × (self.new ≡ self.old))
             (λ text. word_at self.old ≡ Some (text.now, self.new)) }
     {
         match self.tokens {
-            [first, behind @ ..] if is_same_kind(first.kind, TokenKind::Word) => {
-                self.tokens = behind;
+            [first, after @ ..] if is_same_kind(first.kind, TokenKind::Word) => {
+                self.tokens = after;
                 Some(&self.bytes[first.start..first.end])
             }
             _ => None,
         }
     }
 
-    /// Goes behind the next token where it is a name, and gives its text.
+    /// Goes after the next token where it is a name, and gives its text.
     pub fn name(&mut self) -> Option<&'a [u8]>
         ensures found { MatchOption result ((name_at self.old ≡ None) × (self.new ≡ self.old))
             (λ text. name_at self.old ≡ Some (text.now, self.new)) }
         ensures is_name { IfSome result (λ text. is_name text.now ≡ true) }
     {
         match self.tokens {
-            [first, behind @ ..] if is_name_token(self.bytes, first) => {
-                self.tokens = behind;
+            [first, after @ ..] if is_name_token(self.bytes, first) => {
+                self.tokens = after;
                 Some(&self.bytes[first.start..first.end])
             }
             _ => None,
         }
     }
 
-    /// Goes behind the next token where it is this word, and says whether it is.
+    /// Goes after the next token where it is this word, and says whether it is.
     pub fn take_word(&mut self, text: &[u8]) -> bool
-        ensures { MatchBool result (behind_word text.now self.old ≡ Some self.new)
-            ((behind_word text.now self.old ≡ None) × (self.new ≡ self.old)) }
+        ensures { MatchBool result (after_word text.now self.old ≡ Some self.new)
+            ((after_word text.now self.old ≡ None) × (self.new ≡ self.old)) }
     {
         match self.tokens {
-            [first, behind @ ..] if is_word_token(self.bytes, first, text) => {
-                self.tokens = behind;
+            [first, after @ ..] if is_word_token(self.bytes, first, text) => {
+                self.tokens = after;
                 true
             }
             _ => false,
         }
     }
 
-    /// Goes behind the next token where it is of this kind, and says whether it is.
+    /// Goes after the next token where it is of this kind, and says whether it is.
     pub fn take_kind(&mut self, kind: TokenKind) -> bool
-        ensures { MatchBool result (behind_kind kind self.old ≡ Some self.new)
-            ((behind_kind kind self.old ≡ None) × (self.new ≡ self.old)) }
+        ensures { MatchBool result (after_kind kind self.old ≡ Some self.new)
+            ((after_kind kind self.old ≡ None) × (self.new ≡ self.old)) }
     {
         match self.tokens {
-            [first, behind @ ..] if is_same_kind(first.kind, kind) => {
-                self.tokens = behind;
+            [first, after @ ..] if is_same_kind(first.kind, kind) => {
+                self.tokens = after;
                 true
             }
             _ => false,
         }
     }
 
-    /// Goes behind a set of names in brackets, and gives the names. After an error the reader
+    /// Goes after a set of names in brackets, and gives the names. After an error the reader
     /// stands somewhere in the line.
     pub fn names(&mut self, alloc: Global) -> Result<Vec<&'a [u8]>, NamesStop>
         ensures names { IfOk result (λ names.

@@ -5,7 +5,7 @@ ghost use Rattle.std.specs.List.{list_all, prefix_len};
 ghost use Rattle.qsr_lex.specs.Bytes.{is_allowed, is_word_byte};
 ghost use Rattle.qsr_lex.specs.TextLines.{line_count, first_line_len, starts_with_lf, starts_with_end, outside, bad_line, readable_text};
 ghost use Rattle.qsr_lex.specs.Lexemes.{starts_with_colon, tail_len, kind_of};
-ghost use Rattle.qsr_lex.specs.Tokens.{token_here, tokens_behind, tokens_of, token_bytes, shown_bytes, AreApart};
+ghost use Rattle.qsr_lex.specs.Tokens.{token_here, tokens_after, tokens_of, token_bytes, shown_bytes, AreApart};
 ghost use Rattle.qsr_lex.specs.TokenLines.{by_line, token_lines};
 ghost use Rattle.qsr_lex.specs.Stops.{IsStopOf};
 
@@ -154,7 +154,7 @@ fn add_tokens(
 ) -> Result<(), AllocError>
     requires { start + length part.now ≤ 16777216 }
     ensures { OnOk result
-        (tokens.new.items ≡ tokens.old.items ++ tokens_behind line start 0 part.now) }
+        (tokens.new.items ≡ tokens.old.items ++ tokens_after line start 0 part.now) }
 {
     let mut rest = part;
     while !rest.is_empty() {
@@ -193,7 +193,7 @@ fn add_token(
     Ok(length)
 }
 
-// How many bytes behind the first one belong to the token at the front.
+// How many bytes after the first one belong to the token at the front.
 fn tail_len(bytes: &[u8]) -> usize
     ensures value { result ≡ tail_len bytes.now }
     ensures bound { 0 < length bytes.now → result < length bytes.now }

@@ -26,7 +26,7 @@ pub struct Token {
     pub line: u32,
     /// The offset of its first byte in the text.
     pub start: usize,
-    /// The offset behind its last byte.
+    /// The offset after its last byte.
     pub end: usize,
     /// What it is.
     pub kind: TokenKind,

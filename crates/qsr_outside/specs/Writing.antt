@@ -1,4 +1,4 @@
--- What writing to a sink leaves behind.
+-- What writing to a sink leaves after.
 use Rattle.std.specs.Prelude.{ℕ, ◌<◌, List, Option, length, take}
 use Rattle.std.specs.Io.KnownBytes.{Appends}
 

@@ -36,7 +36,7 @@ verdict_is_one closed _ r h k = absurd h
 
 same_closed : (net x y : Network) (t u : List ℕ) → IsClosureText net x t → IsClosureText net y u → x ≡ y
 same_closed net x y t u p q =
-    let words : x.words ≡ y.words = IsClosure-unique rcc8_calculus.meaning net.nodes net.words x.words y.words p.closure q.closure in
+    let words : x.words ≡ y.words = IsClosure-unique rcc8_calculus.algebra net.nodes net.words x.words y.words p.closure q.closure in
     p.rest ∙ ap (λ w. record net { words = w }) words ∙ sym q.rest
 
 closes_once : (net : Network) (t u : List ℕ) (s r : Status) → ClosesNetwork net t s → ClosesNetwork net u r → IsSame t u s r

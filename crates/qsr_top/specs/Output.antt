@@ -30,7 +30,7 @@ refusal_text number place = codes "refused " ++ decimal number ++ place_text pla
 -- the text is that of the network's closure
 pub record IsClosureText (net closed : Network) (text : List ℕ) : Type 0 where
   pub rest : closed ≡ record net { words = closed.words }
-  pub closure : IsClosure rcc8_calculus.meaning net.nodes net.words closed.words
+  pub closure : IsClosure rcc8_calculus.algebra net.nodes net.words closed.words
   pub text_is : text ≡ network_text rcc8_calculus closed
 
 -- no where a set of the closure is empty, and else done

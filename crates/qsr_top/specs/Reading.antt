@@ -1,6 +1,6 @@
 -- How the fault of a network file is refused: its number and its place.
 use Rattle.std.specs.Prelude.{◌≡◌, ℕ, List, Err}
-use Rattle.calculus_table.specs.Calculus.{Named}
+use Rattle.calculus_table.specs.Calculus.{NamedAlgebra}
 use Rattle.network_file.specs.NetworkFile.{read_network}
 use Rattle.network_file.specs.declared.fault.FileFault.{FileFault}
 use Rattle.network_file.specs.declared.fault.FileFault.TheVariants.{Nodes, NoNode, SelfEdge, NameTwice, Syntax, Unknown, NoEnd, Memory}
@@ -22,7 +22,7 @@ IsNumbered (NoEnd lines) number place = IsAt 20 lines number place
 IsNumbered Memory number place = ⊥
 
 -- the bytes are no network file, and their fault has this number and place
-pub record Refuses (c : Named) (bytes : List ℕ) (number : ℕ) (place : Place) : Type 0 where
+pub record Refuses (c : NamedAlgebra) (bytes : List ℕ) (number : ℕ) (place : Place) : Type 0 where
   pub fault : FileFault
   pub refused : read_network c bytes ≡ Err fault
   pub numbered : IsNumbered fault number place

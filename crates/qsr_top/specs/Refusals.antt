@@ -1,6 +1,6 @@
 -- What a refusal says of the fault of a network file.
 use Rattle.std.specs.Prelude.{◌≡◌, ℕ, List}
-use Rattle.calculus_table.specs.Calculus.{Named}
+use Rattle.calculus_table.specs.Calculus.{NamedAlgebra}
 use Rattle.network_file.specs.declared.fault.FileFault.{FileFault}
 use Rattle.network_file.specs.declared.fault.FileFault.TheVariants as file
 use Rattle.qsr_top.specs.Reading.{IsNumbered, Refuses}
@@ -13,6 +13,6 @@ NamesFault fault (Bytes number place) = IsNumbered fault number place
 NamesFault fault Memory = fault ≡ file.Memory
 
 -- the refusal is that of the bytes; want of memory has no cause in them
-abbrev pub IsRefusalOf : Named → List ℕ → Refusal → Type 0
+abbrev pub IsRefusalOf : NamedAlgebra → List ℕ → Refusal → Type 0
 IsRefusalOf c bytes (Bytes number place) = Refuses c bytes number place
 IsRefusalOf c bytes Memory = Unit {0}

@@ -30,7 +30,7 @@ fn verdict(net: &Net) -> Status
 /// The text of the network's closure.
 fn closed_answer(alloc: Global, net: Net, c: &Calculus) -> Result<Answer, Memory>
     requires calculus { c.now ≡ rcc8_calculus }
-    requires network { IsNetwork c.now.meaning net.nodes net.words }
+    requires network { IsNetwork c.now.algebra net.nodes net.words }
     ensures output { IfOk result (λ answer. ClosesNetwork net (string_bytes answer.text) answer.status) }
     ensures status { IfOk result (λ answer. IsCloseStatus answer.status) }
 {

@@ -10,7 +10,7 @@ look-requires-clause-network g c = IsNetwork-lessened _ _ _ c.requires.network c
 
 pub look-requires-clause-settled : goal.look-requires-clause-settled
 look-requires-clause-settled g c =
-    let m = g.C.Compose.meaning c.args.c.now in
+    let m = g.C.Compose.algebra c.args.c.now in
     let net = c.loop-back.net in
     let p = c.loop-back.invariant.round in
     let j = c.nodes-nodes.result - c.loop-back.back in
@@ -24,7 +24,7 @@ returns-in_err-look-clause-emptied g c =
 
 pub loop-back-preserved : goal.loop-back-preserved
 loop-back-preserved g c =
-    let m = g.C.Compose.meaning c.args.c.now in
+    let m = g.C.Compose.algebra c.args.c.now in
     let a = c.args.net.now in
     let u = c.args.work.now in
     let b = c.loop-back.net in

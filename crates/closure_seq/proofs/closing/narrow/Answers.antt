@@ -1,29 +1,29 @@
 use Rattle.std.proofs.lemmas.Bool.{eqb-true, eq-eqb}
-use Rattle.network_words.proofs.Networks.{set_at-within}
+use Rattle.network_words.proofs.Networks.{relation_between-within}
 use Rattle.closure_seq.proofs.Turns.{IsInStep-set, sight, closed-seen, met-along, turn-along, closed-along, emptied-along, pair-first, pair-second}
 use Rattle.closure_seq.proofs.closing.narrow.Goals as goal
 
 pub compose-along-requires-clause-first : goal.compose-along-requires-clause-first
 compose-along-requires-clause-first g c =
-    let m = g.C.Compose.meaning c.args.c.now in
+    let m = g.C.Compose.algebra c.args.c.now in
     let net = c.args.net.now in
     let i = c.args.i in
     let j = c.args.j in
     rw (c.set.ensures, IsInStep-set m net c.args.work.now i j c.requires.in_step (pair-first net.nodes i j c.args.k c.requires.proper))
-    (set_at-within m net.nodes net.words i j c.requires.lawful.table c.requires.network)
+    (relation_between-within m net.nodes net.words i j c.requires.lawful.table c.requires.network)
 
 pub compose-along-requires-clause-second : goal.compose-along-requires-clause-second
 compose-along-requires-clause-second g c =
-    let m = g.C.Compose.meaning c.args.c.now in
+    let m = g.C.Compose.algebra c.args.c.now in
     let net = c.args.net.now in
     let j = c.args.j in
     let k = c.args.k in
     rw (c.set-2.ensures, IsInStep-set m net c.args.work.now j k c.requires.in_step (pair-second net.nodes c.args.i j k c.requires.proper))
-    (set_at-within m net.nodes net.words j k c.requires.lawful.table c.requires.network)
+    (relation_between-within m net.nodes net.words j k c.requires.lawful.table c.requires.network)
 
 pub returns-then-eq-clause-closed : goal.returns-then-eq-clause-closed
 returns-then-eq-clause-closed g c =
-    let m = g.C.Compose.meaning c.args.c.now in
+    let m = g.C.Compose.algebra c.args.c.now in
     let net = c.args.net.now in
     let work = c.args.work.now in
     let i = c.args.i in
@@ -37,7 +37,7 @@ returns-then-eq-clause-closed g c =
 
 pub returns-then-is_empty-clause-emptied : goal.returns-then-is_empty-clause-emptied
 returns-then-is_empty-clause-emptied g c =
-    let m = g.C.Compose.meaning c.args.c.now in
+    let m = g.C.Compose.algebra c.args.c.now in
     let net = c.args.net.now in
     let work = c.args.work.now in
     let i = c.args.i in
@@ -52,7 +52,7 @@ returns-then-is_empty-clause-emptied g c =
 
 pub returns-clause-turn : goal.returns-clause-turn
 returns-clause-turn g c =
-    let m = g.C.Compose.meaning c.args.c.now in
+    let m = g.C.Compose.algebra c.args.c.now in
     let net = c.args.net.now in
     let work = c.args.work.now in
     let i = c.args.i in
@@ -67,7 +67,7 @@ returns-clause-turn g c =
 
 pub returns-clause-closed : goal.returns-clause-closed
 returns-clause-closed g c =
-    let m = g.C.Compose.meaning c.args.c.now in
+    let m = g.C.Compose.algebra c.args.c.now in
     let net = c.args.net.now in
     let work = c.args.work.now in
     let i = c.args.i in

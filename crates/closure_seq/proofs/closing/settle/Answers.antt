@@ -11,7 +11,7 @@ returns-in_err-look_all-clause-emptied g c =
 
 pub returns-clause-closed : goal.returns-clause-closed
 returns-clause-closed g c =
-    let m = g.C.Compose.meaning c.args.c.now in
+    let m = g.C.Compose.algebra c.args.c.now in
     let a = c.args.net.now in
     let b = c.loop.net in
     let after = c.look_all.new.net in

@@ -5,7 +5,7 @@ use Rattle.closure_seq.proofs.closing.settle.Given as goal
 
 abbrev pub invariant-loop : goal.invariant-loop
 invariant-loop g l =
-    let m = g.C.Compose.meaning l.c in
+    let m = g.C.Compose.algebra l.c in
     record {
       lessened : IsLessened m l.initial.net l.net;
       in_step : IsInStep m l.net l.work;

@@ -9,7 +9,7 @@ returns-in_err-narrow-clause-emptied g c =
 
 pub loop-k-preserved : goal.loop-k-preserved
 loop-k-preserved g c =
-    let m = g.C.Compose.meaning c.args.c.now in
+    let m = g.C.Compose.algebra c.args.c.now in
     let a = c.args.net.now in
     let u = c.args.work.now in
     let b = c.loop-k.net in

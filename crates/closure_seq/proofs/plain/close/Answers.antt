@@ -5,7 +5,7 @@ use Rattle.closure_seq.proofs.plain.close.Goals as goal
 
 pub returns-clause-closure : goal.returns-clause-closure
 returns-clause-closure g c =
-    let m = g.C.Compose.meaning c.args.c.now in
+    let m = g.C.Compose.algebra c.args.c.now in
     let a = c.args.net.now in
     let b = c.loop.net in
     let after = c.sweep.new.net in

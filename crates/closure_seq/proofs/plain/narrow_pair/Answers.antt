@@ -7,7 +7,7 @@ use Rattle.closure_seq.proofs.plain.narrow_pair.Goals.{then-j-i+then-j-k+then-na
 
 pub loop-j-preserved : goal.loop-j-preserved
 loop-j-preserved g c =
-    let m = g.C.Compose.meaning c.args.c.now in
+    let m = g.C.Compose.algebra c.args.c.now in
     let a = c.args.net.now in
     let b = c.loop-j.net in
     let j = c.loop-j.j in

@@ -9,7 +9,7 @@ narrow_pair-requires-clause-network g c = IsNetwork-lessened _ _ _ c.requires.ne
 
 pub loop-k-preserved : goal.loop-k-preserved
 loop-k-preserved g c =
-    let m = g.C.Compose.meaning c.args.c.now in
+    let m = g.C.Compose.algebra c.args.c.now in
     let a = c.args.net.now in
     let b = c.loop-k.net in
     let k = c.loop-k.k in

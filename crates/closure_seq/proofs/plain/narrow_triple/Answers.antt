@@ -3,7 +3,7 @@ use Rattle.closure_seq.proofs.plain.narrow_triple.Goals as goal
 
 pub returns-clause-narrowed : goal.returns-clause-narrowed
 returns-clause-narrowed g c =
-    let m = g.C.Compose.meaning c.args.c.now in
+    let m = g.C.Compose.algebra c.args.c.now in
     let net = c.args.net.now in
     rw (c.narrow.ensures, c.compose-along.ensures.value, c.get.ensures.value, c.get-2.ensures.value)
     (IsNarrowing-along m net c.args.i c.args.j c.args.k c.requires.lawful c.requires.network c.requires.proper (λ h.

@@ -6,7 +6,7 @@ use Rattle.closure_seq.proofs.plain.sweep.Goals.{then-narrow_row, else-narrow_ro
 
 pub loop-i-preserved : goal.loop-i-preserved
 loop-i-preserved g c =
-    let m = g.C.Compose.meaning c.args.c.now in
+    let m = g.C.Compose.algebra c.args.c.now in
     let a = c.args.net.now in
     let b = c.loop-i.net in
     let i = c.loop-i.i in
@@ -22,7 +22,7 @@ loop-i-preserved g c =
 
 pub returns-clause-closed : goal.returns-clause-closed
 returns-clause-closed g c = λ e.
-    let m = g.C.Compose.meaning c.args.c.now in
+    let m = g.C.Compose.algebra c.args.c.now in
     let net = c.args.net.now in
     let s = c.loop-i.invariant in
     IsClosed-rows m net.nodes c.loop-i.net.words c.lawful.ensures

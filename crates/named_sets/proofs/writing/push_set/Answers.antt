@@ -15,8 +15,8 @@ pub returns : goal.returns
 returns c =
     let old = string_bytes c.args.text.now in
     let members = member_text c.args.c.now.names c.args.set in
-    let all = text_below c.args.c.now.meaning.size members in
-    let end : c.loop-r.r ≡ c.args.c.now.meaning.size = omega arith in
+    let all = text_below c.args.c.now.algebra.size members in
+    let end : c.loop-r.r ≡ c.args.c.now.algebra.size = omega arith in
     c.in_ok-push_str-2.ensures.bytes
     ∙ ap (λ x. x ++ codes ")") (c.loop-r.invariant ∙ ap (λ k. (old ++ codes "( ") ++ text_below k members) end)
     ∙ append_assoc (old ++ codes "( ") all (codes ")")

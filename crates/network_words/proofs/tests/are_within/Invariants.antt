@@ -4,4 +4,4 @@ use Rattle.calculus_table.specs.Composition.{full_of}
 use Rattle.network_words.proofs.tests.are_within.Given as goal
 
 abbrev pub invariant-loop-fact : goal.invariant-loop-fact
-invariant-loop-fact l = All (λ fact. IsWithin fact.rel (full_of l.c.meaning)) (take l.fact-index l.facts)
+invariant-loop-fact l = All (λ fact. IsWithin fact.rel (full_of l.c.algebra)) (take l.fact-index l.facts)

@@ -3,7 +3,7 @@ use Rattle.std.specs.List.{list_all}
 use Rattle.std.proofs.lemmas.Grind.{common_steps}
 use Rattle.qsr_lex.specs.Bytes.{is_allowed}
 use Rattle.qsr_lex.specs.TextLines.{first_line_len, is_clean}
-use Rattle.qsr_lex.specs.Tokens.{tokens_behind}
+use Rattle.qsr_lex.specs.Tokens.{tokens_after}
 use Rattle.qsr_lex.proofs.Scanning.{bad-here, bad-end, bad-step, tokens-step, count-step, tokens-all, count-all, clean_front-none, clean_front-end}
 use Rattle.qsr_lex.proofs.CleanLines.{IsReadable-from_lines, bad_line-readable}
 use Rattle.qsr_lex.proofs.scan.readable.Goals as goal
@@ -20,7 +20,7 @@ loop-rest-preserved c =
     let is_line : line ≡ take (first_line_len rest) rest = cc in
     let is_after : after ≡ drop (first_line_len rest) rest = cc in
     let clean : is_clean line ≡ true = ap (list_all is_allowed) (sym c.outside-part.ensures.value) ∙ sym c.are_allowed.ensures ∙ search rules in
-    let pushed : c.add_tokens.new.tokens.items ≡ c.loop-rest.tokens.items ++ tokens_behind number at 0 part = first_of (search rules, grind (arith, common_steps)) in
+    let pushed : c.add_tokens.new.tokens.items ≡ c.loop-rest.tokens.items ++ tokens_after number at 0 part = first_of (search rules, grind (arith, common_steps)) in
     let next : length c.args.bytes.now - length after ≡ at + length line = omega arith in
     record {
       told = tokens-step c.loop-rest.tokens.items c.add_tokens.new.tokens.items _ number at _ rest line part after c.loop-rest.invariant.told some

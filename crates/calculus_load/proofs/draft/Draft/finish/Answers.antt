@@ -2,9 +2,9 @@ use Rattle.std.proofs.Common.{◌≡◌, length, map, None, sym, ap, ◌∙◌, 
 use Rattle.std.specs.String.{string_bytes}
 use Rattle.std.proofs.lemmas.List.{length-map}
 use Rattle.std.proofs.lemmas.Grind.{common_steps}
-use Rattle.calculus_table.specs.Meaning.{Meaning}
+use Rattle.calculus_table.specs.Algebra.{Algebra}
 use Rattle.calculus_table.specs.TableFault.{IsFaultOf}
-use Rattle.calculus_load.specs.Given.{Given, meaning_of, first_missing, complete}
+use Rattle.calculus_load.specs.Given.{Given, algebra_of, first_missing, complete}
 use Rattle.calculus_load.specs.TableFile.{IsLoadFaultOf}
 use Rattle.calculus_load.proofs.Faults.{checked_fault}
 use Rattle.calculus_load.proofs.draft.Draft.finish.Goals as goal
@@ -14,8 +14,8 @@ returns c =
     let i = c.self.inside in
     let g : Given = record { names = map string_bytes i.names.items; identity = i.identity; converses = i.converses.items; entries = i.entries.items } in
     let all : length g.names ≡ length i.names.items = length-map i.names.items string_bytes in
-    let checked : Meaning = record { size = length i.names.items; identity = i.identity; converses = c.deref-5.result.now; table = c.deref-6.result.now } in
-    let same : checked ≡ meaning_of g = grind (arith, common_steps) in
+    let checked : Algebra = record { size = length i.names.items; identity = i.identity; converses = c.deref-5.result.now; table = c.deref-6.result.now } in
+    let same : checked ≡ algebra_of g = grind (arith, common_steps) in
     let converses : first_missing i.converses.items ≡ None = ap first_missing (sym c.deref.ensures.value) ∙ sym c.first_missing.ensures.value ∙ c.in_default.is in
     let entries : first_missing i.entries.items ≡ None = ap first_missing (sym c.deref-2.ensures.value) ∙ sym c.first_missing-2.ensures.value ∙ c.in_default-first_missing.is in
     record {

@@ -1,4 +1,4 @@
-use Rattle.calculus_table.specs.Meaning.{entry_at}
+use Rattle.calculus_table.specs.Algebra.{entry_at}
 use Rattle.calculus_table.proofs.Unions.{IsUnionBut-start, IsUnionBut-step, IsUnionBut-end}
 use Rattle.calculus_table.proofs.table.Table.compose_base.Goals as goal
 

@@ -1,4 +1,4 @@
-use Rattle.calculus_table.specs.Meaning.{entry_at}
+use Rattle.calculus_table.specs.Algebra.{entry_at}
 use Rattle.calculus_table.proofs.Unions.{IsUnionBut}
 use Rattle.calculus_table.proofs.table.Table.compose_base.Given as goal
 

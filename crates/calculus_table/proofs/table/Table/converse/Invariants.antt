@@ -1,5 +1,5 @@
 use Rattle.std.proofs.Common.{◌^◌}
-use Rattle.calculus_table.specs.Meaning.{converse_at}
+use Rattle.calculus_table.specs.Algebra.{converse_at}
 use Rattle.calculus_table.proofs.Unions.{IsUnionBut}
 use Rattle.calculus_table.proofs.table.Table.converse.Given as goal
 

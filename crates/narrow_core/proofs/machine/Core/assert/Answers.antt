@@ -10,10 +10,10 @@ invariant_of-self-2 g c =
     let may = rw (← c.self.view_is) at c.requires.allowed in
     let edge = rw (← c.self.view_is) at c.edge_between-edge.ensures.value in
     let below : c.args.actor < length actors = slice_get_within actors c.args.actor may.live.actor may.live.live.is_there in
-    let step = asserts (g.C.Compose.meaning c.args.c.now) c.self.inside.net c.narrow.new.self c.self.inside.opening.items c.self.inside.opening_weight actors
+    let step = asserts (g.C.Compose.algebra c.args.c.now) c.self.inside.net c.narrow.new.self c.self.inside.opening.items c.self.inside.opening_weight actors
     c.args.actor c.edge_between-edge.result c.word.result c.args.fact c.index_mut-actor.result.now c.state.new.self c.see.new.self below
     c.index_mut-actor.ensures.value c.in_ok-state.ensures.stated c.narrow.ensures edge c.word.ensures c.see.ensures in
-    record { core = core-asserts (g.C.Compose.meaning c.args.c.now) c.args.actor c.args.fact _ _ c.self.invariant.core may step; fits = c.self.invariant.fits }
+    record { core = core-asserts (g.C.Compose.algebra c.args.c.now) c.args.actor c.args.fact _ _ c.self.invariant.core may step; fits = c.self.invariant.fits }
 
 pub returns-clause-asserted : goal.returns-clause-asserted
 returns-clause-asserted g c =
@@ -21,6 +21,6 @@ returns-clause-asserted g c =
     let may = rw (← c.self.view_is) at c.requires.allowed in
     let edge = rw (← c.self.view_is) at c.edge_between-edge.ensures.value in
     let below : c.args.actor < length actors = slice_get_within actors c.args.actor may.live.actor may.live.live.is_there in
-    rw (← c.self.view_is) (asserts (g.C.Compose.meaning c.args.c.now) c.self.inside.net c.narrow.new.self c.self.inside.opening.items c.self.inside.opening_weight actors
+    rw (← c.self.view_is) (asserts (g.C.Compose.algebra c.args.c.now) c.self.inside.net c.narrow.new.self c.self.inside.opening.items c.self.inside.opening_weight actors
     c.args.actor c.edge_between-edge.result c.word.result c.args.fact c.index_mut-actor.result.now c.state.new.self c.see.new.self below
     c.index_mut-actor.ensures.value c.in_ok-state.ensures.stated c.narrow.ensures edge c.word.ensures c.see.ensures)

@@ -10,7 +10,7 @@ use Rattle.narrow_core.proofs.machine.Core.run.Goals as goal
 
 pub loop-done-preserved : goal.loop-done-preserved
 loop-done-preserved g c =
-    let m = g.C.Compose.meaning c.args.c.now in
+    let m = g.C.Compose.algebra c.args.c.now in
     let h = c.loop-done.invariant in
     let e = c.index-events-done.result in
     let longer : take (c.loop-done.done + 1) c.args.events.now ≡ take c.loop-done.done c.args.events.now ++ e ∷ [] =
@@ -29,7 +29,7 @@ wanted P (Err error) p = p
 
 pub returns-in_err-step-clause-memory : goal.returns-in_err-step-clause-memory
 returns-in_err-step-clause-memory g c =
-    let m = g.C.Compose.meaning c.args.c.now in
+    let m = g.C.Compose.algebra c.args.c.now in
     let e = c.index-events-done.result in
     let stays : c.step.new.self ≡ c.loop-done.self = c.in_err-step.ensures.memory in
     let allowed : IsAllowed c.loop-done.self e = search rules in

@@ -6,7 +6,7 @@ use Rattle.narrow_core.proofs.machine.Core.run.Given as goal
 
 abbrev pub invariant-loop-done : goal.invariant-loop-done
 invariant-loop-done g l = record {
-  run : IsRun (g.C.Compose.meaning l.c) (take l.done l.events) l.fn.self l.self;
+  run : IsRun (g.C.Compose.algebra l.c) (take l.done l.events) l.fn.self l.self;
   same : SameOpening l.fn.self l.self;
-  bound : Bound (g.C.Compose.meaning l.c) l.fn.self → Bound (g.C.Compose.meaning l.c) l.self;
+  bound : Bound (g.C.Compose.algebra l.c) l.fn.self → Bound (g.C.Compose.algebra l.c) l.self;
 }

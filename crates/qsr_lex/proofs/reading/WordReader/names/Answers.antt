@@ -2,7 +2,7 @@ use Rattle.std.proofs.Common.{◌≡◌, ◌++◌, ◌∷◌, [], None, Some, ma
 use Rattle.std.proofs.lemmas.List.{map_push}
 use Rattle.std.proofs.lemmas.List.Elements.{All-push}
 use Rattle.qsr_lex.specs.Names.{is_name}
-use Rattle.qsr_lex.specs.Words.{behind_kind, name_at, names_at}
+use Rattle.qsr_lex.specs.Words.{after_kind, name_at, names_at}
 use Rattle.qsr_lex.specs.declared.tokens.TokenKind.TheVariants.{Close}
 use Rattle.qsr_lex.proofs.ReadNames.{names-step}
 use Rattle.qsr_lex.proofs.reading.WordReader.names.Goals as goal
@@ -11,7 +11,7 @@ pub loop-self-preserved : goal.loop-self-preserved
 loop-self-preserved c =
     let line = c.loop-self.self in
     let front = map (λ name. name.now) c.loop-self.names.items in
-    let no_close : (behind_kind Close line ≡ None) × (c.take_kind-in-loop-self.new.self ≡ line) = search rules in
+    let no_close : (after_kind Close line ≡ None) × (c.take_kind-in-loop-self.new.self ≡ line) = search rules in
     let named : name_at line ≡ Some (c.in-Some.name.now, c.name.new.self) = ap name_at (sym no_close.1) ∙ c.in-Some.ensures.found in
     let pushed : c.push.new.self.items ≡ c.loop-self.names.items ++ c.in-Some.name ∷ [] = search rules in
     record {

@@ -1,12 +1,12 @@
 use Rattle.std.proofs.Common.{◌≡◌, map, length, true, All}
 use Rattle.qsr_lex.specs.Names.{is_name}
 use Rattle.qsr_lex.specs.Words.{names_at, names_before_close}
-use Rattle.qsr_lex.proofs.ReadNames.{behind_names}
+use Rattle.qsr_lex.proofs.ReadNames.{after_names}
 use Rattle.qsr_lex.proofs.reading.WordReader.names.Given as goal
 
 abbrev pub invariant-loop-self : goal.invariant-loop-self
 invariant-loop-self l = record {
-  told : behind_names (map (λ name. name.now) l.names.items) (names_before_close l.self) ≡ names_at l.fn.self;
+  told : after_names (map (λ name. name.now) l.names.items) (names_before_close l.self) ≡ names_at l.fn.self;
   each : All (λ name. is_name name.now ≡ true) l.names.items;
 }
 
