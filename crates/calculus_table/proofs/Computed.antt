@@ -11,7 +11,7 @@ use Rattle.calculus_table.specs.Algebra.{Algebra, converse_at, entry_at}
 use Rattle.calculus_table.specs.Composition.{full_of}
 use Rattle.calculus_table.specs.Calculus.{IsTable, IsCalculus, InvolutionAt, IdentityAt, AreDistinct}
 use Rattle.calculus_table.specs.Checked.{each_below, is_entry_within, is_row_within, is_converse_below, has_shape, obeys_involution, obeys_identity, obeys_converse, obeys_cycle, each_third, each_pair, each_triple, is_other_name, is_new_name, are_distinct}
-use Rattle.calculus_table.proofs.Compositions.{Has-full}
+use Rattle.calculus_table.proofs.Members.{Has-full}
 
 -- ---- tests of every number below a bound
 

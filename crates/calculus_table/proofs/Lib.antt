@@ -1,4 +1,5 @@
 pub mod Sets
+pub mod Members
 pub mod Compositions
 pub mod PlacesOfNames
 pub mod Faults

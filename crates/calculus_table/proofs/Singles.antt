@@ -5,7 +5,8 @@ use Rattle.calculus_table.specs.Algebra.{Algebra, converse_at, entry_at}
 use Rattle.calculus_table.specs.Composition.{composition, converse, InConverse}
 use Rattle.calculus_table.specs.Calculus.{IsTable}
 use Rattle.calculus_table.proofs.Sets.{Has-single, IsWithin-antisym}
-use Rattle.calculus_table.proofs.Compositions.{single-member, full-member, composition-member, Has-composition, converse-member, Has-converse_at}
+use Rattle.calculus_table.proofs.Members.{single-member, full-member, composition-member, Has-composition, converse-member}
+use Rattle.calculus_table.proofs.Compositions.{Has-converse_at}
 
 pub single-within : (r a : ℕ) → Has a r → IsWithin (2 ^ r) a
 single-within r a h = record { each = λ t p. subst (Has a) (sym (single-member r t p)) h }

@@ -6,7 +6,7 @@ use Rattle.calculus_table.specs.Rel.{Has, IsWithin, IsWithout}
 use Rattle.calculus_table.specs.Algebra.{Algebra}
 use Rattle.calculus_table.specs.Composition.{full_of, union_below, if_has}
 use Rattle.calculus_table.proofs.Sets.{Has-meet, Has-meet_r, not_Has-empty, IsWithin-trans, IsWithin-antisym, IsWithin-empty, IsWithin-meet_l, IsWithin-union, IsWithin-union_l, IsWithin-union_r}
-use Rattle.calculus_table.proofs.Compositions.{InUnion, union_below-member, Has-union_below, if_has-member, Has-if_has, Has-full, full-member}
+use Rattle.calculus_table.proofs.Members.{InUnion, union_below-member, Has-union_below, if_has-member, Has-if_has, Has-full, full-member}
 
 -- the union of f r over the members r of a below n
 abbrev pub union_over : ℕ → (ℕ → ℕ) → ℕ → ℕ

@@ -1,9 +1,12 @@
--- What follows from the four laws for sets of base relations, once and for every calculus.
-use Rattle.std.specs.Prelude.{◌≡◌, ℕ, ◌^◌, bit_or}
+-- What follows from the four laws for sets of base relations, once and for every calculus, and that a table has one fault at most.
+use Rattle.std.specs.Prelude.{◌≡◌, ◌≢◌, ℕ, ◌^◌, List, bit_or}
 use Rattle.calculus_table.specs.Rel.{IsWithin}
 use Rattle.calculus_table.specs.Algebra.{Algebra}
 use Rattle.calculus_table.specs.Composition.{full_of, composition, converse}
-use Rattle.calculus_table.specs.Calculus.{IsTable, IsCalculus}
+use Rattle.calculus_table.specs.Calculus.{IsTable, IsCalculus, AreDistinct}
+use Rattle.calculus_table.specs.TableFault.{IsFaultOf}
+use Rattle.calculus_table.specs.declared.calculus.TableFault.{TableFault}
+use Rattle.calculus_table.specs.declared.calculus.TableFault.TheVariants.{Memory}
 
 -- composition and converse are monotone
 abbrev pub CompositionIsMonotone : Type 0
@@ -38,3 +41,16 @@ ConverseIsInvolution = (m : Algebra) (a : ℕ) → IsCalculus m → IsWithin a (
 abbrev pub IdentityIsNeutral : Type 0
 IdentityIsNeutral = (m : Algebra) (a : ℕ) → IsCalculus m → IsWithin a (full_of m) →
     (composition m (2 ^ m.identity) a ≡ a) × (composition m a (2 ^ m.identity) ≡ a)
+
+-- ---- tables and their faults
+
+-- a table has one fault at most, out of memory aside
+abbrev pub TableFaultIsOne : Type 0
+TableFaultIsOne =
+    (names : List (List ℕ)) (m : Algebra) (f g : TableFault) → IsFaultOf names m f → IsFaultOf names m g →
+    f ≢ Memory → g ≢ Memory → f ≡ g
+
+-- and a calculus with distinct names has none
+abbrev pub CalculusHasNoFault : Type 0
+CalculusHasNoFault =
+    (names : List (List ℕ)) (m : Algebra) (f : TableFault) → IsCalculus m → AreDistinct names → IsFaultOf names m f → f ≡ Memory

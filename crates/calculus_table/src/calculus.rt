@@ -1,4 +1,3 @@
-use crate::checks::check_laws;
 use crate::compose::Compose;
 use crate::names::{first_repeat, place_of};
 use crate::rel::Rel;
@@ -6,24 +5,26 @@ use crate::table::Table;
 use std::alloc::Global;
 use std::marker::Model;
 
-/// Why a table is no calculus. The checks come in this order, and the first that fails is named with its first place.
+/// Why a table is no calculus. The checks come in this order, and the first that fails is named with
+/// its first place.
 #[derive(Clone, Copy, Debug, PartialEq, Eq)]
 pub enum TableFault {
-    /// The name at place `at` stands at an earlier place too.
+    /// The name at place `at` occurs at an earlier place too.
     NameTwice { at: u32 },
     /// The converse of the converse of `r` is another, or the identity `r` isn't its own converse.
     NotInvolution { r: u32 },
     /// The identity composed with `r`, on one side, isn't `r` alone.
     IdentityLaw { r: u32 },
-    /// `t` is in `r;s` or its converse in the composition of the converses turned round, and not both.
+    /// `t` is in `r;s`, or its converse in (the converse of `s`);(the converse of `r`), and not both.
     ConverseLaw { r: u32, s: u32, t: u32 },
     /// `t` is in `r;s` or `r` in `t;(the converse of s)`, and not both.
     CycleLaw { r: u32, s: u32, t: u32 },
-    /// Want of memory.
+    /// Out of memory.
     Memory,
 }
 
-/// A calculus: named base relations with an identity, converses and compositions that obey the four laws.
+/// A calculus: named base relations with an identity, converses and compositions that obey the four
+/// laws.
 #[derive(Debug, Drop)]
 pub struct Calculus {
     names: Vec<String>,
@@ -39,7 +40,10 @@ impl Model for Calculus {
 
     ghost view = { λ a. record { names = map string_bytes a.names.items; algebra = a.table } };
 
-    ghost invariant = { λ a. IsNamedCalculus (record { names = map string_bytes a.names.items; algebra = a.table }) };
+    ghost invariant = { λ a. IsNamedCalculus (record {
+      names = map string_bytes a.names.items;
+      algebra = a.table;
+    }) };
 }
 
 impl Calculus {
@@ -50,8 +54,8 @@ impl Calculus {
     ghost use Rattle.calculus_table.specs.Calculus.{NamedAlgebra, IsTable, IsCalculus, AreDistinct, IsNamedCalculus};
     ghost use Rattle.calculus_table.specs.TableFault.{IsFaultOf};
 
-    /// A calculus of `names`, with the identity `id`, the converse of each base relation and the composition of `r` and `s` at
-    /// `r * n + s` of `table`, where `n` is the number of names.
+    /// A calculus of `names`, with the identity `id`, the converse of each base relation, and the
+    /// composition of `r` and `s` at `r * n + s` of `table`, where `n` is the number of names.
     pub fn new(
         alloc: Global,
         names: Vec<String>,
@@ -59,14 +63,28 @@ impl Calculus {
         conv: &[u32],
         table: &[Rel],
     ) -> Result<Calculus, TableFault>
-        requires { IsTable (record { size = length names.items; identity = id; converses = conv.now; table = table.now }) }
+        requires { IsTable (record {
+          size = length names.items;
+          identity = id;
+          converses = conv.now;
+          table = table.now;
+        }) }
         ensures ok { IfOk result (λ c. c ≡ record {
           names = map string_bytes names.items;
-          algebra = record { size = length names.items; identity = id; converses = conv.now; table = table.now };
+          algebra = record {
+            size = length names.items;
+            identity = id;
+            converses = conv.now;
+            table = table.now;
+          };
         }) }
         ensures lawful { IfOk result IsNamedCalculus }
-        ensures fault { IfErr result (IsFaultOf (map string_bytes names.items)
-            (record { size = length names.items; identity = id; converses = conv.now; table = table.now })) }
+        ensures fault { IfErr result (IsFaultOf (map string_bytes names.items) (record {
+          size = length names.items;
+          identity = id;
+          converses = conv.now;
+          table = table.now;
+        })) }
     {
         let converses = conv.to_vec(alloc).map_err(|_| TableFault::Memory)?;
         let entries = table.to_vec(alloc).map_err(|_| TableFault::Memory)?;
@@ -74,8 +92,34 @@ impl Calculus {
         if let Some(at) = first_repeat(&names) {
             return Err(TableFault::NameTwice { at });
         }
-        check_laws(&table)?;
+        table.check_laws()?;
         Ok(Calculus { names, table })
+    }
+
+    /// The calculus of a table that is known to be one: its laws and names aren't tested, and no memory
+    /// is taken.
+    pub fn of_lawful(names: Vec<String>, id: u32, conv: Vec<u32>, table: Vec<Rel>) -> Calculus
+        requires { IsNamedCalculus (record {
+          names = map string_bytes names.items;
+          algebra = record {
+            size = length names.items;
+            identity = id;
+            converses = conv.items;
+            table = table.items;
+          };
+        }) }
+        ensures { result ≡ record {
+          names = map string_bytes names.items;
+          algebra = record {
+            size = length names.items;
+            identity = id;
+            converses = conv.items;
+            table = table.items;
+          };
+        } }
+    {
+        let table = Table::new(names.len() as u32, id, conv, table);
+        Calculus { names, table }
     }
 
     /// The name of the base relation `r`.

@@ -42,7 +42,8 @@ pub trait Compose {
         ensures within { IsWithin result (full_of (algebra self.now)) };
 }
 
-/// Does nothing. A proof learns by it that what `c` means is a calculus: its table keeps the four laws.
+/// Does nothing. A proof learns by it that what `c` means is a calculus: its table keeps the four
+/// laws.
 pub fn lawful<C: Compose>(c: &C)
     ensures { IsCalculus (C.algebra c.now) }
 {

@@ -1,4 +1,7 @@
-ghost use Rattle.calculus_table.specs.Laws.{CompositionIsMonotone, ConverseIsMonotone, CompositionDistributesLeft, CompositionDistributesRight, ConverseDistributes, ConverseTurnsComposition, ConverseIsInvolution, IdentityIsNeutral};
+ghost use Rattle.std.specs.Prelude.{◌≡◌};
+ghost use Rattle.calculus_table.specs.Laws.{CompositionIsMonotone, ConverseIsMonotone, CompositionDistributesLeft, CompositionDistributesRight, ConverseDistributes, ConverseTurnsComposition, ConverseIsInvolution, IdentityIsNeutral, TableFaultIsOne, CalculusHasNoFault};
+
+use crate::MAX_BASES;
 
 /// The laws of sets of base relations, which hold in every calculus.
 pub fn laws_of_sets()
@@ -10,4 +13,11 @@ pub fn laws_of_sets()
     ensures converse_turns_composition { ConverseTurnsComposition }
     ensures converse_is_involution { ConverseIsInvolution }
     ensures identity_is_neutral { IdentityIsNeutral }
+{}
+
+/// The laws of tables: how many base relations one may have, and that it has one fault at most.
+pub fn laws_of_tables()
+    ensures limit { MAX_BASES ≡ 64 }
+    ensures table_fault_is_one { TableFaultIsOne }
+    ensures calculus_has_no_fault { CalculusHasNoFault }
 {}

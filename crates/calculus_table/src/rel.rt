@@ -1,3 +1,5 @@
+//! Sets of base relations as the bits of a word: intersection, union and containment are one machine
+//! instruction each, and the least member and the number of members too.
 use std::marker::Model;
 
 /// A set of base numbers below 64, kept in one word: bit `r` stands for base number `r`.
@@ -19,7 +21,7 @@ impl Model for Rel {
 }
 
 impl Rel {
-    ghost use Rattle.std.specs.Prelude.{◌≡◌, ◌≢◌, ℕ, ◌^◌, ◌<◌, ◌↔◌, IsTrue, bit_and, bit_or, count_ones};
+    ghost use Rattle.std.specs.Prelude.{◌≡◌, ◌≢◌, ℕ, ◌^◌, ◌<◌, ◌≤◌, ◌↔◌, IsTrue, bit_and, bit_or, count_ones};
     ghost use Rattle.calculus_table.specs.Rel.{Has, IsWithin, IsWithout};
 
     /// The empty set.
@@ -98,6 +100,7 @@ impl Rel {
         requires { self ≢ 0 }
         ensures member { Has self result }
         ensures below { result < 64 }
+        ensures least { (r : ℕ) → Has self r → result ≤ r }
     {
         self.word.trailing_zeros()
     }

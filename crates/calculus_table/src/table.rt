@@ -1,3 +1,11 @@
+//! A table of base relations, its composition of sets, and the tests of its laws.
+//!
+//! A set is composed by going through its members: the union of `r;s` over the members `r` and `s`.
+//! A union over the members of one set takes one step a member, the least first, so a composition
+//! costs at most 64 * 64 steps; it ends since each step takes one member away. The laws are tested
+//! base relation by base relation, pair by pair and triple by triple, in lexicographic order, so the
+//! first fault that is found is the first there is. `n` base relations have `n * n * n` triples.
+use crate::calculus::TableFault;
 use crate::rel::Rel;
 use std::marker::Model;
 
@@ -23,23 +31,44 @@ impl Model for Table {
 
     ghost Value = { Algebra };
 
-    ghost view = { λ a. record { size = a.size; identity = a.identity; converses = a.converses.items; table = a.entries.items } };
+    ghost view = { λ a. record {
+      size = a.size;
+      identity = a.identity;
+      converses = a.converses.items;
+      table = a.entries.items;
+    } };
 
-    ghost invariant = { λ a. IsTable (record { size = a.size; identity = a.identity; converses = a.converses.items; table = a.entries.items }) };
+    ghost invariant = { λ a. IsTable (record {
+      size = a.size;
+      identity = a.identity;
+      converses = a.converses.items;
+      table = a.entries.items;
+    }) };
 }
 
 impl Table {
-    ghost use Rattle.std.specs.Prelude.{◌≡◌, ℕ, ◌<◌, ◌↔◌, IsTrue, MatchOption};
+    ghost use Rattle.std.specs.Prelude.{◌≡◌, ℕ, ◌<◌, ◌↔◌, IsTrue, MatchOption, MatchResult};
     ghost use Rattle.calculus_table.specs.Rel.{IsWithin};
     ghost use Rattle.calculus_table.specs.Algebra.{Algebra, converse_at, entry_at};
     ghost use Rattle.calculus_table.specs.Composition.{full_of, row_composition, composition, converse};
-    ghost use Rattle.calculus_table.specs.Calculus.{IsTable, EachBase, EachTriple, InvolutionAt, IdentityAt, IsFirstBase, IsFirstTriple};
-    ghost use Rattle.calculus_table.specs.TripleLaw.{EachPair, IsFirstPair};
-    ghost use Rattle.calculus_table.specs.TripleLaw.{ObeysAt};
+    ghost use Rattle.calculus_table.specs.Calculus.{IsTable, IsCalculus, EachBase, EachTriple, InvolutionAt, IdentityAt, IsFirstBase, IsFirstTriple};
+    ghost use Rattle.calculus_table.specs.TripleLaw.{EachPair, IsFirstPair, ObeysAt};
+    ghost use Rattle.calculus_table.specs.TableFault.{IsLawFaultOf};
 
+    /// The table of these lists.
     pub(crate) fn new(size: u32, identity: u32, converses: Vec<u32>, entries: Vec<Rel>) -> Self
-        requires { IsTable (record { size = size; identity = identity; converses = converses.items; table = entries.items }) }
-        ensures { result ≡ record { size = size; identity = identity; converses = converses.items; table = entries.items } }
+        requires { IsTable (record {
+          size = size;
+          identity = identity;
+          converses = converses.items;
+          table = entries.items;
+        }) }
+        ensures { result ≡ record {
+          size = size;
+          identity = identity;
+          converses = converses.items;
+          table = entries.items;
+        } }
     {
         Table {
             size,
@@ -49,6 +78,7 @@ impl Table {
         }
     }
 
+    /// The number of base relations.
     pub(crate) fn size(&self) -> u32
         ensures value { result ≡ self.now.size }
         ensures table { IsTable self.now }
@@ -56,6 +86,7 @@ impl Table {
         self.size
     }
 
+    /// The identity relation.
     pub(crate) fn identity(&self) -> u32
         ensures value { result ≡ self.now.identity }
         ensures below { result < self.now.size }
@@ -133,6 +164,26 @@ impl Table {
         all
     }
 
+    /// The first law that the table breaks, at its first place.
+    pub(crate) fn check_laws(&self) -> Result<(), TableFault>
+        ensures { MatchResult result (λ _. IsCalculus self.now) (IsLawFaultOf self.now) }
+    {
+        if let Some(r) = self.first_not_involution() {
+            return Err(TableFault::NotInvolution { r });
+        }
+        if let Some(r) = self.first_not_identity() {
+            return Err(TableFault::IdentityLaw { r });
+        }
+        if let Some((r, s, t)) = self.first_broken(TripleLaw::Converse) {
+            return Err(TableFault::ConverseLaw { r, s, t });
+        }
+        if let Some((r, s, t)) = self.first_broken(TripleLaw::Cycle) {
+            return Err(TableFault::CycleLaw { r, s, t });
+        }
+        Ok(())
+    }
+
+    /// Whether `r` is the converse of its converse, and its own converse if it is the identity.
     fn is_involution_at(&self, r: u32) -> bool
         requires { r < self.now.size }
         ensures { IsTrue result ↔ InvolutionAt self.now r }
@@ -141,6 +192,7 @@ impl Table {
         self.converse_at(converse) == r && (r != self.identity || converse == r)
     }
 
+    /// Whether the identity, on either side, leaves `r` as it is.
     fn is_identity_at(&self, r: u32) -> bool
         requires { r < self.now.size }
         ensures { IsTrue result ↔ IdentityAt self.now r }
@@ -149,9 +201,12 @@ impl Table {
             && self.entry_at(r, self.identity) == Rel::single(r)
     }
 
-    /// The first base relation that the converse doesn't give back, or the identity where it isn't its own converse.
-    pub(crate) fn first_not_involution(&self) -> Option<u32>
-        ensures { MatchOption result (EachBase self.now (InvolutionAt self.now)) (IsFirstBase self.now (InvolutionAt self.now)) }
+    /// The first base relation that isn't the converse of its converse, or is the identity and not its
+    /// own converse.
+    fn first_not_involution(&self) -> Option<u32>
+        ensures { MatchOption result
+            (EachBase self.now (InvolutionAt self.now))
+            (IsFirstBase self.now (InvolutionAt self.now)) }
     {
         for r in 0..self.size {
             if !self.is_involution_at(r) {
@@ -162,8 +217,10 @@ impl Table {
     }
 
     /// The first base relation that the identity, on either side, changes.
-    pub(crate) fn first_not_identity(&self) -> Option<u32>
-        ensures { MatchOption result (EachBase self.now (IdentityAt self.now)) (IsFirstBase self.now (IdentityAt self.now)) }
+    fn first_not_identity(&self) -> Option<u32>
+        ensures { MatchOption result
+            (EachBase self.now (IdentityAt self.now))
+            (IsFirstBase self.now (IdentityAt self.now)) }
     {
         for r in 0..self.size {
             if !self.is_identity_at(r) {
@@ -173,6 +230,7 @@ impl Table {
         None
     }
 
+    /// Whether the triple obeys the law.
     fn obeys_at(&self, law: TripleLaw, r: u32, s: u32, t: u32) -> bool
         requires first { r < self.now.size }
         requires second { s < self.now.size }
@@ -195,7 +253,9 @@ impl Table {
     fn first_broken_third(&self, law: TripleLaw, r: u32, s: u32) -> Option<u32>
         requires first { r < self.now.size }
         requires second { s < self.now.size }
-        ensures { MatchOption result (EachBase self.now (ObeysAt law self.now r s)) (IsFirstBase self.now (ObeysAt law self.now r s)) }
+        ensures { MatchOption result
+            (EachBase self.now (ObeysAt law self.now r s))
+            (IsFirstBase self.now (ObeysAt law self.now r s)) }
     {
         for t in 0..self.size {
             if !self.obeys_at(law, r, s, t) {
@@ -221,7 +281,7 @@ impl Table {
     }
 
     /// The first triple that breaks the law, in lexicographic order.
-    pub(crate) fn first_broken(&self, law: TripleLaw) -> Option<(u32, u32, u32)>
+    fn first_broken(&self, law: TripleLaw) -> Option<(u32, u32, u32)>
         ensures answer { MatchOption result
             (EachTriple self.now (ObeysAt law self.now))
             (λ p. IsFirstTriple self.now (ObeysAt law self.now) p.0 p.1 p.2) }

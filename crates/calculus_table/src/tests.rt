@@ -7,7 +7,7 @@ use std::test::Fail;
 
 #[test]
 fn sets_are_the_bits_of_their_words(rt: HostRuntime) {
-    // two words, their meet, their union, whether the first is within the second, and how many members the first has
+    // two words, their meet, their union, whether the first is within the second, and the first's count
     let rows = [
         (0, 0, 0, 0, true, 0),
         (0, 0b1010, 0, 0b1010, true, 0),
@@ -79,8 +79,10 @@ fn three_relations(
     conv: [u32; 3],
     words: [u64; 9],
 ) -> Result<Calculus, TableFault>
-    requires { IsTrue (has_shape (record { size = 3; identity = 0; converses = conv; table = words })) }
-    ensures { IfOk result (λ c. c.algebra ≡ record { size = 3; identity = 0; converses = conv; table = words }) }
+    requires { IsTrue (has_shape
+        (record { size = 3; identity = 0; converses = conv; table = words })) }
+    ensures { IfOk result (λ c. c.algebra
+        ≡ record { size = 3; identity = 0; converses = conv; table = words }) }
 {
     let names = three_names(alloc, names)?;
     let table = sets_of(alloc, &words)?;

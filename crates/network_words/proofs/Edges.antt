@@ -1,7 +1,8 @@
 -- The numbers of edges: their rows, their bound, and that different pairs have different numbers.
-use Rattle.std.proofs.Common.{◌≡◌, ℕ, cond, zero, suc, ◌+◌, ◌-◌, ◌*◌, ◌/◌, ◌<◌, ◌≤◌, refl, ◌∙◌, ap, subst, arith, inl, inr, add-zero, add-suc}
+use Rattle.std.proofs.Common.{◌≡◌, ◌↔◌, ℕ, cond, zero, suc, ◌+◌, ◌-◌, ◌*◌, ◌/◌, ◌<◌, ◌≤◌, refl, ◌∙◌, ap, subst, arith, inl, inr, add-zero, add-suc}
 use Rattle.std.proofs.lemmas.Bool.{cases_lt, lt-ltb, le-ltb}
-use Rattle.network_words.specs.Edge.{edge_count, edge_at, edge_between}
+use Rattle.network_words.specs.Edge.{edge_count, edge_at, edge_between, ComesBefore}
+pub use Rattle.network_words.specs.Edge.{EdgeOf}
 
 -- the number of the first edge of node i
 pub row_start : ℕ → ℕ → ℕ
@@ -71,20 +72,33 @@ edge_at-second n i j k l o b p q e =
     let rows : row_start n i ≡ row_start n k = ap (row_start n) same in
     omega (arith, edge_at-row n i j (omega arith), edge_at-row n k l (omega arith))
 
+-- the numbers are in the lexicographic order of the pairs
+pub edge_at-order : (n i j k l : ℕ) → i < j → j < n → k < l → l < n → edge_at n i j < edge_at n k l ↔ ComesBefore i j k l
+edge_at-order n i j k l o b p q = (
+  λ h. elim (cases_lt i k) [
+    | inl x ↦ inl x
+    | inr y ↦ elim (cases_lt k i) [
+      | inl z ↦ absurd (omega (arith, edge_at-row_end n k l p q, edge_at-row_start n i j o b, row_start-mono n (suc k) i z))
+      | inr w ↦ (let same : i ≡ k = omega arith in
+          let rows : row_start n i ≡ row_start n k = ap (row_start n) same in
+          inr (same, omega (arith, edge_at-row n i j (omega arith), edge_at-row n k l (omega arith))))
+    ]
+  ],
+  λ h. elim h [
+    | inl x ↦ omega (arith, edge_at-row_end n i j o b, edge_at-row_start n k l p q, row_start-mono n (suc i) k x)
+    | inr s ↦ (let first = s.0 in
+        let second = s.1 in
+        let rows : row_start n i ≡ row_start n k = ap (row_start n) first in
+        omega (arith, edge_at-row n i j (omega arith), edge_at-row n k l (omega arith)))
+  ],
+)
+
 -- the edge between two nodes, by their order
 pub edge_between-straight : (n i j : ℕ) → i < j → edge_between n i j ≡ edge_at n i j
 edge_between-straight n i j h = ap (λ b. cond b (edge_at n i j) (edge_at n j i)) (lt-ltb i j h)
 
 pub edge_between-turned : (n i j : ℕ) → j ≤ i → edge_between n i j ≡ edge_at n j i
 edge_between-turned n i j h = ap (λ b. cond b (edge_at n i j) (edge_at n j i)) (le-ltb i j h)
-
--- each number below the count is that of an edge
-pub record EdgeOf (n e : ℕ) : Type 0 where
-  pub first : ℕ
-  pub second : ℕ
-  pub order : first < second
-  pub below : second < n
-  pub number : edge_at n first second ≡ e
 
 edge_below : (n k e : ℕ) → k ≤ n → e < row_start n k → EdgeOf n e
 unfolding row_start

@@ -1,4 +1,4 @@
--- Networks met with lists of facts, and their closures.
+-- Networks narrowed by lists of facts, and their closures.
 use Rattle.std.proofs.Common.{◌≡◌, ℕ, ◌≤◌, true, false, cond, List, [], ◌∷◌, length, set, refl, sym, ◌∙◌, arith, inl, inr}
 use Rattle.std.specs.Prelude.{bit_and, slice_index, slice_set, nat_lt}
 use Rattle.std.proofs.lemmas.Bool.{cases_lt}

@@ -1,19 +1,19 @@
 -- The net of facts, one fact after another, and that there is one net at most.
-use Rattle.std.proofs.Common.{◌≡◌, ◌≢◌, ℕ, ◌+◌, ◌<◌, ◌≤◌, Bool, true, false, cond, ◌&&◌, not, List, [], ◌∷◌, ◌++◌, length, drop, get_or, replicate, Some, None, refl, sym, ◌∙◌, ap, subst, arith, inl, inr, ◌↔◌}
+use Rattle.std.proofs.Common.{◌≡◌, ◌≢◌, ℕ, ◌+◌, ◌<◌, ◌≤◌, Bool, true, false, cond, ◌&&◌, not, List, [], ◌∷◌, ◌++◌, length, drop, get_or, replicate, Some, None, refl, sym, ◌∙◌, ap, subst, arith, inl, inr, ◌↔◌, append_assoc, append-nil}
 use Rattle.std.specs.Prelude.{bit_and, slice_index, slice_set, All, nat_lt, ◌==◌}
 use Rattle.std.specs.List.{AllByRecursion}
 use Rattle.std.proofs.lemmas.Bool.{cases_lt, cases_eq, lt-ltb, le-ltb, ltb-true, eqb-false}
 use Rattle.std.proofs.lemmas.List.{length-replicate, get_or-replicate, get_or-set_same, get_or-set_other}
 use Rattle.std.proofs.lemmas.List.Elements.{All-from_recursion, All-push, All-nil, All-cons, All-head, All-tail}
 use Rattle.std.proofs.lemmas.Grind.{same_number_lists}
-use Rattle.std.proofs.Math.ListN.{drop_of_length-le}
+use Rattle.std.proofs.Math.ListN.{drop_of_length-le, get_or-eq_default}
 use Rattle.calculus_table.specs.Rel.{Has, IsWithin}
 use Rattle.calculus_table.specs.Algebra.{Algebra}
 use Rattle.calculus_table.specs.Composition.{full_of, converse}
-use Rattle.calculus_table.proofs.Sets.{Has-meet, Has-meet_l, Has-meet_r, IsWithin-antisym}
+use Rattle.calculus_table.proofs.Sets.{Has-meet, Has-meet_l, Has-meet_r, IsWithin-antisym, IsWithin-empty}
 use Rattle.calculus_table.proofs.Compositions.{Has-full, full-member}
 use Rattle.network_words.specs.Edge.{edge_at, edge_count, IsProperPair}
-use Rattle.network_words.specs.Network.{narrowed_at}
+use Rattle.network_words.specs.Network.{IsNetwork, narrowed_at}
 use Rattle.network_words.specs.Facts.{Allows, IsNetworkOfFacts, narrowed_by}
 use Rattle.network_words.specs.NetFault.{first_fault}
 use Rattle.network_words.specs.declared.net.NetFault.TheVariants.{NoNode, SelfEdge}
@@ -29,6 +29,18 @@ IsNetworkOfFacts-within m n facts xs ys p q e edge =
     let within : IsWithin (slice_index xs (edge_at n edge.first edge.second)) (slice_index ys (edge_at n edge.first edge.second)) =
     record { each = λ t h. (q.members edge.first edge.second t edge.order edge.below).1 ((p.members edge.first edge.second t edge.order edge.below).0 h) } in
     subst (λ d. IsWithin (slice_index xs d) (slice_index ys d)) edge.number within
+
+-- the network of facts has sets of base relations of the calculus
+pub IsNetwork-from_facts : (m : Algebra) (n : ℕ) (facts : List Fact) (words : List ℕ) → IsNetworkOfFacts m n facts words → IsNetwork m n words
+IsNetwork-from_facts m n facts words net = record {
+  length_is = net.length_is;
+  within = λ e. elim (cases_lt e (edge_count n)) [
+    | inl b ↦ (let at : EdgeOf n e = edge_of n e b in
+        record { each = λ t h. Has-full m t ((net.members at.first at.second t at.order at.below).0 (subst (λ k. Has (slice_index words k) t) (sym at.number) h)).0 })
+    | inr p ↦ (let none : slice_index words e ≡ 0 = get_or-eq_default words 0 (omega (arith, net.length_is)) in
+        subst (λ x. IsWithin x (full_of m)) (sym none) (IsWithin-empty (full_of m)))
+  ];
+}
 
 -- two lists of sets that are the net of the same facts are equal
 pub IsNetworkOfFacts-unique : (m : Algebra) (n : ℕ) (facts : List Fact) (xs ys : List ℕ) → IsNetworkOfFacts m n facts xs → IsNetworkOfFacts m n facts ys → xs ≡ ys
@@ -176,3 +188,17 @@ IsNetworkOfFacts-push m n words fs f p w = record {
         λ h. one.1 (old.1 (h.0, all-front (Allows m i j t) fs f h.1), all-last (Allows m i j t) fs f h.1),
       );
 }
+
+-- and so with more facts, one after another
+pub IsNetworkOfFacts-append : (m : Algebra) (n : ℕ) (words : List ℕ) (fs gs : List Fact) → AllByRecursion (IsProperFact n) gs → IsNetworkOfFacts m n fs words → IsNetworkOfFacts m n (fs ++ gs) (narrowed_by m n words gs)
+IsNetworkOfFacts-append m n words fs [] p w = subst (λ hs. IsNetworkOfFacts m n hs words) (sym (append-nil fs)) w
+IsNetworkOfFacts-append m n words fs (g ∷ gs) p w =
+    subst (λ hs. IsNetworkOfFacts m n hs (narrowed_by m n words (g ∷ gs))) (append_assoc fs (g ∷ []) gs)
+    (IsNetworkOfFacts-append m n (narrowed_at m n words g.i g.j g.rel) (fs ++ g ∷ []) gs p.1 (IsNetworkOfFacts-push m n words fs g p.0.pair w))
+
+proper_of : (n : ℕ) (fs : List Fact) → All (λ f. IsProperPair n f.i f.j) fs → AllByRecursion (IsProperFact n) fs
+proper_of n [] h = tt
+proper_of n (f ∷ fs) h = (record { pair = All-head (λ g. IsProperPair n g.i g.j) f fs h }, proper_of n fs (All-tail (λ g. IsProperPair n g.i g.j) f fs h))
+
+pub appended_facts_narrow : (m : Algebra) (n : ℕ) (words : List ℕ) (fs gs : List Fact) → All (λ f. IsProperPair n f.i f.j) gs → IsNetworkOfFacts m n fs words → IsNetworkOfFacts m n (fs ++ gs) (narrowed_by m n words gs)
+appended_facts_narrow m n words fs gs p w = IsNetworkOfFacts-append m n words fs gs (proper_of n gs p) w

@@ -9,12 +9,12 @@ use Rattle.calculus_table.specs.Algebra.{Algebra, converse_at, entry_at}
 use Rattle.calculus_table.specs.Composition.{full_of, composition, converse, InComposition, InConverse}
 use Rattle.calculus_table.specs.Calculus.{IsCalculus}
 use Rattle.calculus_table.proofs.Sets.{IsWithin-trans, IsWithin-empty, empty-within, not_Has-empty, Has-single}
-use Rattle.calculus_table.proofs.Compositions.{Has-full, Has-composition, composition-member, converse-member}
+use Rattle.calculus_table.proofs.Compositions.{single-member, Has-full, Has-composition, composition-member, converse-member}
 use Rattle.calculus_table.proofs.Singles.{single-within, within-single, converse-single}
 use Rattle.network_words.specs.Edge.{edge_count, edge_at, IsProperPair, IsProperTriple}
 use Rattle.network_words.specs.Network.{IsNetwork, Refines, relation_between}
 use Rattle.network_words.specs.Closure.{IsClosed, IsClosure}
-use Rattle.network_words.specs.Scenario.{IsScenario, singles}
+use Rattle.network_words.specs.Scenario.{IsScenario, as_network}
 use Rattle.network_words.proofs.Edges.{EdgeOf, edge_of, edge_at-lt}
 use Rattle.network_words.proofs.Networks.{relation_between-straight, relation_between-turned, relation_between-converse, IsClosed-ordered}
 
@@ -29,6 +29,13 @@ single-composes m r s t a b c h = single-within t _ (Has-composition m (2 ^ r) (
   second_in = Has-single s;
   composes = record { first_below = a; second_below = b; below = c; member = h };
 }))
+
+-- and back
+single-entry : (m : Algebra) (r s t : ℕ) → IsCalculus m → IsWithin (2 ^ t) (composition m (2 ^ r) (2 ^ s)) → Has (entry_at m r s) t
+single-entry m r s t k h =
+    let i : InComposition m (2 ^ r) (2 ^ s) t = composition-member m (2 ^ r) (2 ^ s) t k.table (within-single t _ h) in
+    subst (λ x. Has (entry_at m r x) t) (single-member s i.second i.second_in)
+    (subst (λ x. Has (entry_at m x i.second) t) (single-member r i.first i.first_in) i.composes.member)
 
 -- ---- the three turns of a triple of base relations
 
@@ -51,91 +58,117 @@ turn-left m r s t k a b c h =
 
 -- ---- scenarios
 
-length-singles : (bases : List ℕ) → length (singles bases) ≡ length bases
-length-singles bases = length-map bases (λ r. 2 ^ r)
+length-as_network : (relations : List ℕ) → length (as_network relations) ≡ length relations
+length-as_network relations = length-map relations (λ r. 2 ^ r)
 
-singles_past : (bases : List ℕ) (e : ℕ) → length bases ≤ e → slice_index (singles bases) e ≡ 0
-singles_past bases e o = get_or-eq_default (singles bases) 0 (omega (arith, length-singles bases))
+as_network_past : (relations : List ℕ) (e : ℕ) → length relations ≤ e → slice_index (as_network relations) e ≡ 0
+as_network_past relations e o = get_or-eq_default (as_network relations) 0 (omega (arith, length-as_network relations))
 
-single-index : (bases : List ℕ) (e : ℕ) → e < length bases → slice_index (singles bases) e ≡ 2 ^ slice_index bases e
-single-index bases e l = get_or-map (λ r. 2 ^ r) bases e 0 0 l
+as_network-index : (relations : List ℕ) (e : ℕ) → e < length relations → slice_index (as_network relations) e ≡ 2 ^ slice_index relations e
+as_network-index relations e l = get_or-map (λ r. 2 ^ r) relations e 0 0 l
 
 -- what a scenario says of the pair of two nodes, either way round
-record PairOf (m : Algebra) (n : ℕ) (bases : List ℕ) (i j : ℕ) : Type 0 where
-  straight : relation_between m n (singles bases) i j ≡ 2 ^ slice_index bases (edge_at n i j)
-  turned : relation_between m n (singles bases) j i ≡ 2 ^ converse_at m (slice_index bases (edge_at n i j))
-  below : slice_index bases (edge_at n i j) < m.size
+record PairOf (m : Algebra) (n : ℕ) (relations : List ℕ) (i j : ℕ) : Type 0 where
+  straight : relation_between m n (as_network relations) i j ≡ 2 ^ slice_index relations (edge_at n i j)
+  turned : relation_between m n (as_network relations) j i ≡ 2 ^ converse_at m (slice_index relations (edge_at n i j))
+  below : slice_index relations (edge_at n i j) < m.size
 
-pair_of : (m : Algebra) (n : ℕ) (words bases : List ℕ) (i j : ℕ) → IsScenario m n words bases → i < j → j < n → PairOf m n bases i j
-pair_of m n words bases i j s o b =
+pair_of : (m : Algebra) (n : ℕ) (words relations : List ℕ) (i j : ℕ) → IsScenario m n words relations → i < j → j < n → PairOf m n relations i j
+pair_of m n words relations i j s o b =
     let l : edge_at n i j < edge_count n = edge_at-lt n i j o b in
-    let e : slice_index (singles bases) (edge_at n i j) ≡ 2 ^ slice_index bases (edge_at n i j) = single-index bases (edge_at n i j) (omega (arith, s.length_is)) in
+    let e : slice_index (as_network relations) (edge_at n i j) ≡ 2 ^ slice_index relations (edge_at n i j) = as_network-index relations (edge_at n i j) (omega (arith, s.length_is)) in
     let below = s.below (edge_at n i j) l in
     record {
-      straight = relation_between-straight m n (singles bases) i j o ∙ e;
-      turned = relation_between-turned m n (singles bases) j i (omega arith) ∙ ap (converse m) e ∙ converse-single m (slice_index bases (edge_at n i j)) below;
+      straight = relation_between-straight m n (as_network relations) i j o ∙ e;
+      turned = relation_between-turned m n (as_network relations) j i (omega arith) ∙ ap (converse m) e ∙ converse-single m (slice_index relations (edge_at n i j)) below;
       below = below;
     }
 
 -- a scenario as single sets is a network within the words
-pub IsNetwork-singles : (m : Algebra) (n : ℕ) (words bases : List ℕ) → IsScenario m n words bases → IsNetwork m n (singles bases)
-IsNetwork-singles m n words bases s = record {
-  length_is = length-singles bases ∙ s.length_is;
-  within = λ e. elim (cases_lt e (length bases)) [
-    | inl l ↦ rw (single-index bases e l) (single-within _ _ (Has-full m _ (s.below e (omega (arith, s.length_is)))))
-    | inr o ↦ rw (singles_past bases e o) (IsWithin-empty (full_of m))
+pub IsNetwork-as_network : (m : Algebra) (n : ℕ) (words relations : List ℕ) → IsScenario m n words relations → IsNetwork m n (as_network relations)
+IsNetwork-as_network m n words relations s = record {
+  length_is = length-as_network relations ∙ s.length_is;
+  within = λ e. elim (cases_lt e (length relations)) [
+    | inl l ↦ rw (as_network-index relations e l) (single-within _ _ (Has-full m _ (s.below e (omega (arith, s.length_is)))))
+    | inr o ↦ rw (as_network_past relations e o) (IsWithin-empty (full_of m))
   ];
 }
 
-pub Refines-singles : (m : Algebra) (n : ℕ) (words bases : List ℕ) → IsScenario m n words bases → Refines (singles bases) words
-Refines-singles m n words bases s = record {
-  each = λ e. elim (cases_lt e (length bases)) [
-    | inl l ↦ rw (single-index bases e l) (single-within _ _ (s.member e (omega (arith, s.length_is))))
-    | inr o ↦ rw (singles_past bases e o) (IsWithin-empty _)
+pub Refines-as_network : (m : Algebra) (n : ℕ) (words relations : List ℕ) → IsScenario m n words relations → Refines (as_network relations) words
+Refines-as_network m n words relations s = record {
+  each = λ e. elim (cases_lt e (length relations)) [
+    | inl l ↦ rw (as_network-index relations e l) (single-within _ _ (s.member e (omega (arith, s.length_is))))
+    | inr o ↦ rw (as_network_past relations e o) (IsWithin-empty _)
   ];
 }
 
-pub IsClosed-singles : (m : Algebra) (n : ℕ) (words bases : List ℕ) → IsCalculus m → IsScenario m n words bases → IsClosed m n (singles bases)
-IsClosed-singles m n words bases k s = IsClosed-ordered m n (singles bases) k (IsNetwork-singles m n words bases s) (λ i j l p o.
-    let base = λ (a b : ℕ). slice_index bases (edge_at n a b) in
-    let il = pair_of m n words bases i l s o p.third_below in
+pub IsClosed-as_network : (m : Algebra) (n : ℕ) (words relations : List ℕ) → IsCalculus m → IsScenario m n words relations → IsClosed m n (as_network relations)
+IsClosed-as_network m n words relations k s = IsClosed-ordered m n (as_network relations) k (IsNetwork-as_network m n words relations s) (λ i j l p o.
+    let base = λ (a b : ℕ). slice_index relations (edge_at n a b) in
+    let il = pair_of m n words relations i l s o p.third_below in
     elim (cases_lt i j) [
       | inl ij ↦ elim (cases_lt j l) [
-        | inl jl ↦ (let f = pair_of m n words bases i j s ij p.second_below in
-            let g = pair_of m n words bases j l s jl p.third_below in
+        | inl jl ↦ (let f = pair_of m n words relations i j s ij p.second_below in
+            let g = pair_of m n words relations j l s jl p.third_below in
             rw (il.straight, f.straight, g.straight)
             (single-composes m (base i j) (base j l) (base i l) f.below g.below il.below (s.composes i j l ij jl p.third_below)))
         | inr lj ↦ (let lt : l < j = omega (arith, p.second_third) in
-            let f = pair_of m n words bases i j s ij p.second_below in
-            let g = pair_of m n words bases l j s lt p.second_below in
+            let f = pair_of m n words relations i j s ij p.second_below in
+            let g = pair_of m n words relations l j s lt p.second_below in
             rw (il.straight, f.straight, g.turned)
             (single-composes m (base i j) (converse_at m (base l j)) (base i l) f.below (k.table.converse_below _ g.below) il.below
             (turn-right m (base i l) (base l j) (base i j) k il.below g.below f.below (s.composes i l j o lt p.second_below))))
       ]
       | inr ji ↦ (let lt : j < i = omega (arith, p.first_second) in
-          let f = pair_of m n words bases j i s lt p.first_below in
-          let g = pair_of m n words bases j l s (omega arith) p.third_below in
+          let f = pair_of m n words relations j i s lt p.first_below in
+          let g = pair_of m n words relations j l s (omega arith) p.third_below in
           rw (il.straight, f.turned, g.straight)
           (single-composes m (converse_at m (base j i)) (base j l) (base i l) (k.table.converse_below _ f.below) g.below il.below
           (turn-left m (base j i) (base i l) (base j l) k f.below il.below g.below (s.composes j i l lt o p.third_below))))
     ])
 
 -- a scenario of a network is one of each network that holds its single sets
-IsScenario-within : (m : Algebra) (n : ℕ) (words others bases : List ℕ) → IsScenario m n words bases → Refines (singles bases) others → IsScenario m n others bases
-IsScenario-within m n words others bases s w = record {
+IsScenario-within : (m : Algebra) (n : ℕ) (words others relations : List ℕ) → IsScenario m n words relations → Refines (as_network relations) others → IsScenario m n others relations
+IsScenario-within m n words others relations s w = record {
   length_is = s.length_is;
   below = s.below;
-  member = λ e l. within-single _ _ (subst (λ x. IsWithin x (slice_index others e)) (single-index bases e (omega (arith, s.length_is))) (w.each e));
+  member = λ e l. within-single _ _ (subst (λ x. IsWithin x (slice_index others e)) (as_network-index relations e (omega (arith, s.length_is))) (w.each e));
   composes = s.composes;
 }
 
-pub IsScenario-closure : (m : Algebra) (n : ℕ) (words closure bases : List ℕ) → IsCalculus m → IsNetwork m n words → IsClosure m n words closure → IsScenario m n words bases ↔ IsScenario m n closure bases
-IsScenario-closure m n words closure bases k net c = (
-  λ s. IsScenario-within m n words closure bases s
-      (c.greatest (singles bases) (length-singles bases ∙ s.length_is ∙ sym net.length_is) (IsClosed-singles m n words bases k s) (Refines-singles m n words bases s)),
-  λ s. IsScenario-within m n closure words bases s
-      (record { each = λ e. IsWithin-trans _ _ _ ((Refines-singles m n closure bases s).each e) (c.within.each e) }),
+pub IsScenario-closure : (m : Algebra) (n : ℕ) (words closure relations : List ℕ) → IsCalculus m → IsNetwork m n words → IsClosure m n words closure → IsScenario m n words relations ↔ IsScenario m n closure relations
+IsScenario-closure m n words closure relations k net c = (
+  λ s. IsScenario-within m n words closure relations s
+      (c.greatest (as_network relations) (length-as_network relations ∙ s.length_is ∙ sym net.length_is) (IsClosed-as_network m n words relations k s) (Refines-as_network m n words relations s)),
+  λ s. IsScenario-within m n closure words relations s
+      (record { each = λ e. IsWithin-trans _ _ _ ((Refines-as_network m n closure relations s).each e) (c.within.each e) }),
 )
+
+-- a closed network of single base relations is a scenario of each network that it refines
+pub IsScenario-closed : (m : Algebra) (n : ℕ) (words relations : List ℕ) → IsCalculus m → length relations ≡ edge_count n → ((e : ℕ) → e < edge_count n → slice_index relations e < m.size) →
+    IsClosed m n (as_network relations) → Refines (as_network relations) words → IsScenario m n words relations
+IsScenario-closed m n words relations k l below closed w =
+    let base = λ (i j : ℕ). slice_index relations (edge_at n i j) in
+    let at = λ (i j : ℕ) (o : i < j) (b : j < n).
+    relation_between-straight m n (as_network relations) i j o ∙ as_network-index relations (edge_at n i j) (omega (arith, l, edge_at-lt n i j o b)) in
+    record {
+      length_is = l;
+      below = below;
+      member = λ e b. within-single _ _ (subst (λ x. IsWithin x (slice_index words e)) (as_network-index relations e (omega (arith, l))) (w.each e));
+      composes = λ i j d ij jd b.
+          let jn : j < n = omega arith in
+          let id : i < d = omega arith in
+          let p : IsProperTriple n i j d = record {
+            first_below = omega arith;
+            second_below = jn;
+            third_below = b;
+            first_second = λ e. absurd (omega arith);
+            second_third = λ e. absurd (omega arith);
+            first_third = λ e. absurd (omega arith);
+          } in
+          single-entry m (base i j) (base j d) (base i d) k
+          (rw (at i d id b, at i j ij jn, at j d jd b) at (closed.each i j d p));
+    }
 
 -- ---- empty sets
 

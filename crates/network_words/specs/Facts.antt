@@ -18,7 +18,7 @@ pub record IsNetworkOfFacts (m : Algebra) (n : ℕ) (facts : List Fact) (words :
   pub members : (i j t : ℕ) → i < j → j < n →
       Has (slice_index words (edge_at n i j)) t ↔ (t < m.size) × All (Allows m i j t) facts
 
--- the network in which the set of each fact's pair is met with the fact's set
+-- the network in which the set of each fact's pair is intersected with the fact's set
 abbrev pub narrowed_by : Algebra → ℕ → List ℕ → List Fact → List ℕ
 narrowed_by m n words [] = words
 narrowed_by m n words (fact ∷ facts) = narrowed_by m n (narrowed_at m n words fact.i fact.j fact.rel) facts

@@ -5,7 +5,7 @@ use Rattle.network_words.specs.declared.fact.Fact.{Fact}
 use Rattle.network_words.specs.declared.net.NetFault.{NetFault}
 use Rattle.network_words.specs.declared.net.NetFault.TheVariants.{Nodes, NoNode, SelfEdge, NameTwice, Memory}
 
--- the place that is named is the first at which a name stands twice; want of memory has no cause in the names
+-- the place that is named is the first at which a name occurs again; out of memory has no cause in the names
 abbrev pub IsNamesFaultOf : List (List ℕ) → NetFault → Type 0
 IsNamesFaultOf names (NameTwice at) = IsFirstRepeat names at
 IsNamesFaultOf names Memory = Unit {0}

@@ -12,7 +12,7 @@ pub struct Fact {
     pub rel: Rel,
 }
 
-// The fault of the fact at place `at`, for this number of nodes.
+/// The fault of the fact at place `at`, for this number of nodes.
 fn fault_of(nodes: u32, at: u32, fact: Fact) -> Option<NetFault>
     ensures { result ≡ first_fault nodes at (fact ∷ []) }
 {

@@ -1,4 +1,5 @@
 use crate::MAX_NODES;
+use crate::between::{edge_at, edge_between, oriented, relation_between};
 use crate::fact::{Fact, first_fault};
 use crate::names::{number_of, numbered};
 use calculus_table::{Compose, Memory, Rel};
@@ -15,13 +16,14 @@ pub enum NetFault {
     NoNode { at: u32 },
     /// The fact at place `at` has one node twice.
     SelfEdge { at: u32 },
-    /// The name at place `at` stands at an earlier place too.
+    /// The name at place `at` occurs at an earlier place too.
     NameTwice { at: u32 },
-    /// Want of memory.
+    /// Out of memory.
     Memory,
 }
 
-/// A network: a set of base relations for each pair of nodes, and names of the nodes, none or one for each.
+/// A constraint network: a set of base relations for each pair of nodes, and names of the nodes,
+/// none or one for each.
 #[derive(Debug, Drop)]
 pub struct Net {
     nodes: u32,
@@ -37,9 +39,19 @@ impl Model for Net {
 
     ghost Value = { Network };
 
-    ghost view = { λ a. record { nodes = a.nodes; full = a.full; words = a.words.items; names = map string_bytes a.names.keys } };
+    ghost view = { λ a. record {
+      nodes = a.nodes;
+      full = a.full;
+      words = a.words.items;
+      names = map string_bytes a.names.keys;
+    } };
 
-    ghost invariant = { λ a. IsShaped (record { nodes = a.nodes; full = a.full; words = a.words.items; names = map string_bytes a.names.keys }) };
+    ghost invariant = { λ a. IsShaped (record {
+      nodes = a.nodes;
+      full = a.full;
+      words = a.words.items;
+      names = map string_bytes a.names.keys;
+    }) };
 }
 
 impl Net {
@@ -55,7 +67,12 @@ impl Net {
 
     /// A network without names, whose every set is `full`.
     pub fn new(alloc: Global, nodes: u32, full: Rel) -> Result<Net, NetFault>
-        ensures ok { IfOk result (λ net. net ≡ record { nodes = nodes; full = full; words = replicate (edge_count nodes) full; names = [] }) }
+        ensures ok { IfOk result (λ net. net ≡ record {
+          nodes = nodes;
+          full = full;
+          words = replicate (edge_count nodes) full;
+          names = [];
+        }) }
         ensures nodes { IsErrOf result NetFault.Nodes ↔ (nodes ≡ 0) ⊎ (MAX_NODES < nodes) }
         ensures fault { IfErr result (λ e. (e ≡ NetFault.Nodes) ⊎ (e ≡ NetFault.Memory)) }
     {
@@ -93,7 +110,8 @@ impl Net {
     /// Names the nodes.
     pub fn set_names(&mut self, names: Vec<String>) -> Result<(), NetFault>
         requires { length names.items ≡ self.old.nodes }
-        ensures ok { OnOk result (self.new ≡ record self.old { names = map string_bytes names.items }) }
+        ensures ok { OnOk result
+            (self.new ≡ record self.old { names = map string_bytes names.items }) }
         ensures distinct { OnOk result (AreDistinct (map string_bytes names.items)) }
         ensures fault { IfErr result (IsNamesFaultOf (map string_bytes names.items)) }
         ensures kept { OnErr result (self.new ≡ self.old) }
@@ -131,7 +149,7 @@ impl Net {
         ensures value { result ≡ edge_at self.now.nodes i j }
         ensures below { result < edge_count self.now.nodes }
     {
-        i * (2 * self.nodes - i - 1) / 2 + (j - i - 1)
+        edge_at(self.nodes, i, j)
     }
 
     /// The set of an edge.
@@ -173,51 +191,51 @@ impl Net {
     pub fn find(&self, name: &[u8]) -> Option<u32>
         ensures { MatchOption result
             ((node : ℕ) → slice_get self.now.names node ≢ Some name.now)
-            (λ node. (node < self.now.nodes) × (slice_get self.now.names node ≡ Some name.now)) }
+            (λ node. (node < self.now.nodes)
+            × (slice_get self.now.names node ≡ Some name.now)) }
     {
         let node = number_of(&self.names, name)?;
         Some(node as u32)
     }
 
-    /// The set of the pair `(i, j)`, turned by the converse where `i > j`.
+    /// The relation of node `i` to node `j`: the set of their edge, or its converse where `i > j`.
     pub fn get<C: Compose>(&self, c: &C, i: u32, j: u32) -> Rel
         requires proper { IsProperPair self.now.nodes i j }
         requires within { IsNetwork (C.algebra c.now) self.now.nodes self.now.words }
-        ensures value { result ≡ relation_between (C.algebra c.now) self.now.nodes self.now.words i j }
+        ensures value { result
+            ≡ relation_between (C.algebra c.now) self.now.nodes self.now.words i j }
         ensures within { IsWithin result (full_of (C.algebra c.now)) }
     {
-        if i < j {
-            self.word(self.edge(i, j))
-        } else {
-            c.converse(self.word(self.edge(j, i)))
-        }
+        relation_between(c, self.nodes, &self.words, i, j)
     }
 
-    /// Meets the set of the pair `(i, j)` with `rel`.
+    /// Narrows the relation of node `i` to node `j` to its intersection with `rel`.
     pub fn narrow<C: Compose>(&mut self, c: &C, i: u32, j: u32, rel: Rel)
         requires proper { IsProperPair self.old.nodes i j }
         requires within { IsWithin rel (full_of (C.algebra c.now)) }
-        ensures { self.new ≡ record self.old { words = narrowed_at (C.algebra c.now) self.old.nodes self.old.words i j rel } }
+        ensures { self.new ≡ record self.old {
+          words = narrowed_at (C.algebra c.now) self.old.nodes self.old.words i j rel;
+        } }
     {
-        let (edge, rel) = if i < j {
-            (self.edge(i, j), rel)
-        } else {
-            (self.edge(j, i), c.converse(rel))
-        };
-        self.set(edge, self.word(edge).meet(rel));
+        let edge = edge_between(self.nodes, i, j);
+        self.set(edge, self.word(edge).meet(oriented(c, i, j, rel)));
     }
 
-    /// Meets the set of each fact's pair with the fact's set.
+    /// Narrows the network by each fact. Where a fact is refused the network is as before.
     pub fn add_facts<C: Compose>(&mut self, c: &C, facts: &[Fact]) -> Result<(), NetFault>
         requires few { length facts.now < 2 ^ 32 }
         requires within { All (λ fact. IsWithin fact.rel (full_of (C.algebra c.now))) facts.now }
-        ensures ok { OnOk result (self.new ≡ record self.old { words = narrowed_by (C.algebra c.now) self.old.nodes self.old.words facts.now }) }
-        ensures net { OnOk result (self.old.words ≡ replicate (edge_count self.old.nodes) (full_of (C.algebra c.now))
+        ensures ok { OnOk result (self.new ≡ record self.old {
+          words = narrowed_by (C.algebra c.now) self.old.nodes self.old.words facts.now;
+        }) }
+        ensures net { OnOk result
+            (self.old.words ≡ replicate (edge_count self.old.nodes) (full_of (C.algebra c.now))
             → IsNetworkOfFacts (C.algebra c.now) self.old.nodes facts.now self.new.words) }
 
         // A fault comes exactly where a fact has one, and it is that of the first such fact.
         ensures proper { OnOk result (first_fault self.old.nodes 0 facts.now ≡ None) }
-        ensures fault { IfErr result (λ fault. first_fault self.old.nodes 0 facts.now ≡ Some fault) }
+        ensures fault { IfErr result
+            (λ fault. first_fault self.old.nodes 0 facts.now ≡ Some fault) }
         ensures kept { OnErr result (self.new ≡ self.old) }
     {
         if let Some(fault) = first_fault(self.nodes, facts) {

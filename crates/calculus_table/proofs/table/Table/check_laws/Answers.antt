@@ -1,4 +1,4 @@
-use Rattle.calculus_table.proofs.checks.check_laws.Goals as goal
+use Rattle.calculus_table.proofs.table.Table.check_laws.Goals as goal
 
 pub returns : goal.returns
 returns c = record {
