@@ -1,6 +1,3 @@
-pub mod Answering
-pub mod Closed
-pub mod FileNetworks
+pub mod Parts
+pub mod InputsOnce
 pub mod OneOutput
-pub mod Refusing
-pub mod Words

@@ -1,23 +1,18 @@
--- One text and one status at most are permitted for words and bytes.
-use Rattle.std.proofs.Common.{◌≡◌, ℕ, ◌<◌, ◌≤◌, List, [], ◌∷◌, length, Err, refl, sym, ◌∙◌, ap, subst, arith, ◌⊎◌, inl, inr, codes}
-use Rattle.std.specs.Str.{bytes_eq}
-use Rattle.std.proofs.lemmas.Bool.{cases_Bool}
-use Rattle.std.proofs.lemmas.Slice.Eq.{bytes_eq-Decides}
+-- One text and one status at most are permitted for what words ask for.
+use Rattle.std.proofs.Common.{◌≡◌, ℕ, List, [], Option, None, Some, Result, Ok, Err, refl, sym, ◌∙◌, ap, subst}
 use Rattle.calculus_table.specs.Calculus.{NamedAlgebra}
-use Rattle.calculus_builtin.specs.Rcc8.{rcc8_calculus}
 use Rattle.network_words.specs.Network.{Network}
 use Rattle.network_words.proofs.Networks.{IsClosure-unique}
 use Rattle.network_file.specs.NetworkText.{network_text}
-use Rattle.network_file.specs.NetworkFile.{read_network}
-use Rattle.network_file.specs.declared.fault.FileFault.{FileFault}
-use Rattle.network_file.specs.declared.fault.FileFault.TheVariants as file
-use Rattle.qsr_top.specs.Refusals.{Refuses, IsNumbered}
-use Rattle.qsr_top.specs.Output.{Output, CloseOutput, ClosesBytes, ClosesNetwork, IsClosureText, IsVerdict, close_words, refusal_text}
-use Rattle.qsr_top.specs.declared.TheConstants.{SOURCE_LIMIT}
+use Rattle.qsr_outside.specs.Documents.{Documents}
+use Rattle.qsr_words.specs.Asked.{Asked, close}
+use Rattle.qsr_top.specs.Stops.{Cause, refuses, is_long}
+use Rattle.qsr_top.specs.Parts.{IsOne}
+use Rattle.qsr_top.specs.Output.{Output, OutputOf, Works, Problem, CloseInput, ClosesNetwork, IsClosureText, IsVerdict, refusal_text}
 use Rattle.qsr_top.specs.declared.statuses.Place.{Place}
 use Rattle.qsr_top.specs.declared.statuses.Status.{Status}
-use Rattle.qsr_top.specs.declared.statuses.Status.TheVariants.{Done, No, Refused, TooLong}
-use Rattle.network_file.proofs.ReadAgain.{file_is_of_one}
+use Rattle.qsr_top.specs.declared.statuses.Status.TheVariants.{Done, No, Usage, Refused, ReadFault, WriteFault, Memory, Budget, NotAccepted, TooLong}
+use Rattle.qsr_top.proofs.InputsOnce.{CloseInput-one}
 
 -- the same text and the same status
 pub record IsSame (t u : List ℕ) (s r : Status) : Type 0 where
@@ -50,91 +45,65 @@ module _ (c : NamedAlgebra) where
         status = verdict_is_one q.closed s r (subst (λ x. IsVerdict x s) closed p.verdict) q.verdict;
       }
 
-  closes_bytes_once : (bytes t u : List ℕ) (s r : Status) → ClosesBytes c bytes t s → ClosesBytes c bytes u r → IsSame t u s r
-  closes_bytes_once bytes t u s r p q =
-      closes_once q.net t u s r (subst (λ n. ClosesNetwork c n t s) (file_is_of_one c bytes p.net q.net p.reads q.reads) p.closes) q.closes
+-- ---- what a command makes of its input, by the three kinds of its output
 
-  -- ---- refusals
+-- a value has one text and one status at most
+abbrev WorksOnce : {A : Type 0} → (A → List ℕ → Status → Type 0) → Type 0
+WorksOnce {A = A} Work = (a : A) (t u : List ℕ) (s r : Status) → Work a t s → Work a u r → IsSame t u s r
 
-  numbered_once : (fault : FileFault) (m n : ℕ) (p q : Place) → IsNumbered fault m p → IsNumbered fault n q → (m ≡ n) × (p ≡ q)
-  numbered_once (file.Nodes line) m n p q h k = (h.0 ∙ sym k.0, h.1 ∙ sym k.1)
-  numbered_once (file.NoNode line) m n p q h k = (h.0 ∙ sym k.0, h.1 ∙ sym k.1)
-  numbered_once (file.SelfEdge line) m n p q h k = (h.0 ∙ sym k.0, h.1 ∙ sym k.1)
-  numbered_once (file.NameTwice line) m n p q h k = (h.0 ∙ sym k.0, h.1 ∙ sym k.1)
-  numbered_once (file.Syntax line) m n p q h k = (h.0 ∙ sym k.0, h.1 ∙ sym k.1)
-  numbered_once (file.Unknown line) m n p q h k = (h.0 ∙ sym k.0, h.1 ∙ sym k.1)
-  numbered_once (file.NoEnd lines) m n p q h k = (h.0 ∙ sym k.0, h.1 ∙ sym k.1)
-  numbered_once file.Memory m n p q h k = absurd h
-
-  same_fault : (bytes : List ℕ) (e f : FileFault) → read_network c bytes ≡ Err e → read_network c bytes ≡ Err f → e ≡ f
-  same_fault bytes e f p q = cc
-
-  refuses_once : (bytes : List ℕ) (m n : ℕ) (p q : Place) → Refuses c bytes m p → Refuses c bytes n q → (m ≡ n) × (p ≡ q)
-  refuses_once bytes m n p q h k =
-      numbered_once k.fault m n p q (subst (λ e. IsNumbered e m p) (same_fault bytes h.fault k.fault h.refused k.refused) h.numbered) k.numbered
-
-  not_both : (bytes t : List ℕ) (s : Status) (n : ℕ) (p : Place) → ClosesBytes c bytes t s → Refuses c bytes n p → ⊥
-  not_both bytes t s n p h k = let a = h.reads.reads in let b = k.refused in cc
-
-  -- ---- what closing writes, by its three kinds
-
-  record IsRefused (bytes t : List ℕ) (s : Status) : Type 0 where
+module _ {A : Type 0} (Part : Result A Cause → Type 0) (Work : A → List ℕ → Status → Type 0) where
+  record IsRefused (t : List ℕ) (s : Status) : Type 0 where
     number : ℕ
     place : Place
-    refuses : Refuses c bytes number place
+    refused : Part (Err (refuses number place))
     text : t ≡ refusal_text number place
     status : s ≡ Refused number place
 
-  data Kind (bytes t : List ℕ) (s : Status) : Type 0 where
-    closes : length bytes ≤ SOURCE_LIMIT → ClosesBytes c bytes t s → Kind bytes t s
-    refused : length bytes ≤ SOURCE_LIMIT → IsRefused bytes t s → Kind bytes t s
-    too_long : SOURCE_LIMIT < length bytes → t ≡ [] → s ≡ TooLong → Kind bytes t s
+  data Kind (t : List ℕ) (s : Status) : Type 0 where
+    works : Works Part Work t s → Kind t s
+    refused : IsRefused t s → Kind t s
+    too_long : Part (Err is_long) → t ≡ [] → s ≡ TooLong → Kind t s
 
-  kind_of : (bytes t : List ℕ) (s : Status) → CloseOutput c bytes t s → Kind bytes t s
-  kind_of bytes t Done h = closes h.0 h.1
-  kind_of bytes t No h = closes h.0 h.1
-  kind_of bytes t (Refused number place) h = refused h.0 (record { number = number; place = place; refuses = h.1; text = h.2; status = refl })
-  kind_of bytes t TooLong h = too_long h.0 h.1 refl
-  kind_of bytes t _ h = absurd h
+  kind_of : (t : List ℕ) (s : Status) → OutputOf Part Work t s → Kind t s
+  kind_of t Done h = works h
+  kind_of t No h = works h
+  kind_of t Budget h = works h
+  kind_of t (NotAccepted number place) h = works h
+  kind_of t (Refused number place) h = refused (record { number = number; place = place; refused = h.0; text = h.1; status = refl })
+  kind_of t TooLong h = too_long h.0 h.1 refl
+  kind_of t _ h = absurd h
 
-  same_refused : (bytes t u : List ℕ) (s r : Status) → IsRefused bytes t s → IsRefused bytes u r → IsSame t u s r
-  same_refused bytes t u s r p q =
-      let one = refuses_once bytes p.number q.number p.place q.place p.refuses q.refuses in
-      record {
-        text = p.text ∙ ap (λ n. refusal_text n p.place) one.0 ∙ ap (refusal_text q.number) one.1 ∙ sym q.text;
-        status = p.status ∙ ap (λ n. Refused n p.place) one.0 ∙ ap (Refused q.number) one.1 ∙ sym q.status;
-      }
+  module _ (one : IsOne Part) (once : WorksOnce Work) where
+    kinds_once : (t u : List ℕ) (s r : Status) → Kind t s → Kind u r → IsSame t u s r
+    kinds_once t u s r (works h) (works k) = once k.value t u s r (subst (λ a. Work a t s) (values h.value k.value (one (Ok h.value) (Ok k.value) h.input k.input)) h.work) k.work where
+      values : (a b : A) → Ok {E = Cause} a ≡ Ok b → a ≡ b
+      values a b e = cc
+    kinds_once t u s r (works h) (refused k) = let e = one (Ok h.value) (Err (refuses k.number k.place)) h.input k.refused in absurd cc
+    kinds_once t u s r (works h) (too_long p x y) = let e = one (Ok h.value) (Err is_long) h.input p in absurd cc
+    kinds_once t u s r (refused h) (works k) = let e = one (Err (refuses h.number h.place)) (Ok k.value) h.refused k.input in absurd cc
+    kinds_once t u s r (refused h) (refused k) =
+        let e = one (Err (refuses h.number h.place)) (Err (refuses k.number k.place)) h.refused k.refused in
+        let numbers : h.number ≡ k.number = cc in
+        let places : h.place ≡ k.place = cc in
+        record {
+          text = h.text ∙ ap (λ n. refusal_text n h.place) numbers ∙ ap (refusal_text k.number) places ∙ sym k.text;
+          status = h.status ∙ ap (λ n. Refused n h.place) numbers ∙ ap (Refused k.number) places ∙ sym k.status;
+        }
+    kinds_once t u s r (refused h) (too_long p x y) = let e = one (Err (refuses h.number h.place)) (Err is_long) h.refused p in absurd cc
+    kinds_once t u s r (too_long p x y) (works k) = let e = one (Err is_long) (Ok k.value) p k.input in absurd cc
+    kinds_once t u s r (too_long p x y) (refused k) = let e = one (Err is_long) (Err (refuses k.number k.place)) p k.refused in absurd cc
+    kinds_once t u s r (too_long p x y) (too_long q z w) = record { text = x ∙ sym z; status = y ∙ sym w }
 
-  kinds_once : (bytes t u : List ℕ) (s r : Status) → Kind bytes t s → Kind bytes u r → IsSame t u s r
-  kinds_once bytes t u s r (closes a h) (closes b k) = closes_bytes_once bytes t u s r h k
-  kinds_once bytes t u s r (closes a h) (refused b k) = absurd (not_both bytes t s k.number k.place h k.refuses)
-  kinds_once bytes t u s r (closes a h) (too_long b x y) = absurd (omega arith)
-  kinds_once bytes t u s r (refused a h) (closes b k) = absurd (not_both bytes u r h.number h.place k h.refuses)
-  kinds_once bytes t u s r (refused a h) (refused b k) = same_refused bytes t u s r h k
-  kinds_once bytes t u s r (refused a h) (too_long b x y) = absurd (omega arith)
-  kinds_once bytes t u s r (too_long a x y) (closes b k) = absurd (omega arith)
-  kinds_once bytes t u s r (too_long a x y) (refused b k) = absurd (omega arith)
-  kinds_once bytes t u s r (too_long a x y) (too_long b z w) = record { text = x ∙ sym z; status = y ∙ sym w }
+-- ---- all commands
 
--- ---- the words
+problems_once : WorksOnce {A = Problem} (λ p. ClosesNetwork p.calculus p.network)
+problems_once p t u s r h k = closes_once p.calculus p.network t u s r h k
 
-two_alike : (a b : List ℕ) → (a ∷ b ∷ [] ≡ close_words) ⊎ ¬ (a ∷ b ∷ [] ≡ close_words)
-two_alike a b = elim (cases_Bool (bytes_eq a (codes "close"))) [
-  | inl x ↦ elim (cases_Bool (bytes_eq b (codes "rcc8"))) [
-    | inl y ↦ inl (ap (λ z. z ∷ b ∷ []) ((bytes_eq-Decides a (codes "close")).0 x) ∙ ap (λ z. codes "close" ∷ z ∷ []) ((bytes_eq-Decides b (codes "rcc8")).0 y))
-    | inr y ↦ inr (λ e. let same : b ≡ codes "rcc8" = cc in let t = (bytes_eq-Decides b (codes "rcc8")).1 same in cc)
-  ]
-  | inr x ↦ inr (λ e. let same : a ≡ codes "close" = cc in let t = (bytes_eq-Decides a (codes "close")).1 same in cc)
-]
-
-words_alike : (words : List (List ℕ)) → (words ≡ close_words) ⊎ ¬ (words ≡ close_words)
-words_alike [] = inr (λ e. cc)
-words_alike (a ∷ []) = inr (λ e. cc)
-words_alike (a ∷ b ∷ []) = two_alike a b
-words_alike (a ∷ b ∷ c ∷ more) = inr (λ e. cc)
-
-pub output_once : (words : List (List ℕ)) (bytes t u : List ℕ) (s r : Status) → Output words bytes t s → Output words bytes u r → (t ≡ u) × (s ≡ r)
-output_once words bytes t u s r p q = elim (words_alike words) [
-  | inl same ↦ (let one = kinds_once rcc8_calculus bytes t u s r (kind_of rcc8_calculus bytes t s (p.close same)) (kind_of rcc8_calculus bytes u r (q.close same)) in (one.text, one.status))
-  | inr other ↦ ((p.usage other).1 ∙ sym (q.usage other).1, (p.usage other).0 ∙ sym (q.usage other).0)
-]
+pub output_once : (asked : Option Asked) (documents : Documents) (bytes t u : List ℕ) (s r : Status) →
+    Output asked documents bytes t s → Output asked documents bytes u r → (t ≡ u) × (s ≡ r)
+output_once None documents bytes t u s r p q = (p.1 ∙ sym q.1, p.0 ∙ sym q.0)
+output_once (Some (close asked)) documents bytes t u s r p q =
+    let Part = CloseInput documents asked.calculus bytes in
+    let Work : Problem → List ℕ → Status → Type 0 = λ p. ClosesNetwork p.calculus p.network in
+    let same = kinds_once Part Work (CloseInput-one documents asked.calculus bytes) problems_once t u s r (kind_of Part Work t s p) (kind_of Part Work u r q) in
+    (same.text, same.status)

@@ -1,8 +1,14 @@
 pub mod Code
-pub mod Refusals
+pub mod Stops
+pub mod Parts
+pub mod Numbers
+pub mod Inputs
 pub mod Output
+pub mod Told
 pub mod Ends
+pub mod Spoken
 pub mod SinkAfter
+pub mod Laws
 pub use Rattle.network_words.specs.Network
 pub use Rattle.network_words.specs.Closure
 pub use Rattle.network_words.specs.Facts

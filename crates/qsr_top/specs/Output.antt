@@ -1,23 +1,23 @@
--- What the program writes, and how it ends: a relation between its words, the bytes of its source, a text and a status.
-use Rattle.std.specs.Prelude.{◌≡◌, ℕ, ◌<◌, ◌≤◌, List, [], ◌∷◌, ◌++◌, length, Contains, codes, if◌then◌else◌, nat_lt}
+-- What the program writes, and how it ends: a relation between what its words ask for, the documents, the bytes of its source, a text
+-- and a status.
+use Rattle.std.specs.Prelude.{◌≡◌, ℕ, List, [], ◌++◌, Contains, codes, Option, None, Some, Result, Ok, Err, if◌then◌else◌, nat_lt}
 use Rattle.std.specs.Fmt.{decimal}
 use Rattle.calculus_table.specs.Calculus.{NamedAlgebra}
-use Rattle.calculus_builtin.specs.Rcc8.{rcc8_calculus}
 use Rattle.network_words.specs.Network.{Network}
 use Rattle.network_words.specs.Closure.{IsClosure}
 use Rattle.network_file.specs.NetworkText.{network_text}
-use Rattle.network_file.specs.NetworkFile.{IsFileOf}
-use Rattle.qsr_top.specs.Refusals.{Refuses}
-use Rattle.qsr_top.specs.declared.TheConstants.{SOURCE_LIMIT}
+use Rattle.qsr_outside.specs.Documents.{Documents}
+use Rattle.qsr_words.specs.Asked.{Asked, close}
+use Rattle.qsr_top.specs.Stops.{Cause, refuses, is_long}
+use Rattle.qsr_top.specs.Parts.{Then}
+use Rattle.qsr_top.specs.Inputs.{CalculusOf, SourceNetwork}
 use Rattle.qsr_top.specs.declared.statuses.Place.{Place}
 use Rattle.qsr_top.specs.declared.statuses.Status.{Status}
-use Rattle.qsr_top.specs.declared.statuses.Status.TheVariants.{Done, No, Usage, Refused, TooLong}
+use Rattle.qsr_top.specs.declared.statuses.Status.TheVariants.{Done, No, Usage, Refused, ReadFault, WriteFault, Memory, Budget, NotAccepted, TooLong}
 
--- the words of the command that closes a network of regions
-abbrev pub close_words : List (List ℕ)
-close_words = codes "close" ∷ codes "rcc8" ∷ []
+-- ---- texts
 
--- the line for words that are no command
+-- the line for words that ask for nothing
 abbrev pub usage_text : List ℕ
 usage_text = codes "usage\n"
 
@@ -31,6 +31,8 @@ place_text place =
 -- the line of a refusal
 abbrev pub refusal_text : ℕ → Place → List ℕ
 refusal_text number place = codes "refused " ++ decimal number ++ place_text place ++ codes "\n"
+
+-- ---- closing
 
 -- the text is that of the network's closure
 pub record IsClosureText (c : NamedAlgebra) (net closed : Network) (text : List ℕ) : Type 0 where
@@ -50,30 +52,39 @@ pub record ClosesNetwork (c : NamedAlgebra) (net : Network) (text : List ℕ) (s
   pub closure_text : IsClosureText c net closed text
   pub verdict : IsVerdict closed status
 
--- the text and the status that closing gives the network that the bytes state
-pub record ClosesBytes (c : NamedAlgebra) (bytes text : List ℕ) (status : Status) : Type 0 where
-  pub net : Network
-  pub reads : IsFileOf c bytes net
-  pub closes : ClosesNetwork c net text status
+-- a network over a calculus
+pub record Problem : Type 0 where
+  pub calculus : NamedAlgebra
+  pub network : Network
 
--- what closing writes of a source of these bytes
-abbrev pub CloseOutput : NamedAlgebra → List ℕ → List ℕ → Status → Type 0
-CloseOutput c bytes text Done = (length bytes ≤ SOURCE_LIMIT) × ClosesBytes c bytes text Done
-CloseOutput c bytes text No = (length bytes ≤ SOURCE_LIMIT) × ClosesBytes c bytes text No
-CloseOutput c bytes text (Refused number place) =
-    (length bytes ≤ SOURCE_LIMIT) × Refuses c bytes number place × (text ≡ refusal_text number place)
-CloseOutput c bytes text TooLong = (SOURCE_LIMIT < length bytes) × (text ≡ [])
-CloseOutput c bytes text status = ⊥
+-- the calculus of a word, and over it the network of the source
+abbrev pub CloseInput : Documents → List ℕ → List ℕ → Result Problem Cause → Type 0
+CloseInput documents word bytes =
+    Then (CalculusOf documents word) (λ c. Then (SourceNetwork bytes c) (λ net result. result ≡ Ok (record { calculus = c; network = net })))
 
--- what is written to words that are no command
+-- ---- every command
+
+-- a value of a part, and what a command makes of it
+pub record Works {A : Type 0} (Part : Result A Cause → Type 0) (Work : A → List ℕ → Status → Type 0) (text : List ℕ) (status : Status) : Type 0 where
+  pub value : A
+  pub input : Part (Ok value)
+  pub work : Work value text status
+
+-- the line of a refusal, nothing where an input is too long, and else what the command makes of its input
+abbrev pub OutputOf : {A : Type 0} → (Result A Cause → Type 0) → (A → List ℕ → Status → Type 0) → List ℕ → Status → Type 0
+OutputOf Part Work text (Refused number place) = Part (Err (refuses number place)) × (text ≡ refusal_text number place)
+OutputOf Part Work text TooLong = Part (Err is_long) × (text ≡ [])
+OutputOf Part Work text Usage = ⊥
+OutputOf Part Work text ReadFault = ⊥
+OutputOf Part Work text WriteFault = ⊥
+OutputOf Part Work text Memory = ⊥
+OutputOf Part Work text status = Works Part Work text status
+
+-- what is written to words that ask for nothing
 abbrev pub UsageOutput : List ℕ → Status → Type 0
 UsageOutput text status = (status ≡ Usage) × (text ≡ usage_text)
 
--- the texts and statuses that are permitted: one command is taken, and other words have the usage line
-pub record Output (words : List (List ℕ)) (bytes text : List ℕ) (status : Status) : Type 0 where
-  pub close : words ≡ close_words → CloseOutput rcc8_calculus bytes text status
-  pub usage : ¬ (words ≡ close_words) → UsageOutput text status
-
--- one text and one status at most
-abbrev pub OutputIsOne : Type 0
-OutputIsOne = (words : List (List ℕ)) (bytes t u : List ℕ) (s r : Status) → Output words bytes t s → Output words bytes u r → (t ≡ u) × (s ≡ r)
+-- the texts and statuses that are permitted
+abbrev pub Output : Option Asked → Documents → List ℕ → List ℕ → Status → Type 0
+Output None documents bytes = UsageOutput
+Output (Some (close asked)) documents bytes = OutputOf (CloseInput documents asked.calculus bytes) (λ p. ClosesNetwork p.calculus p.network)

@@ -1,37 +1,71 @@
-//! What `close` writes of a source's bytes: they state a network, the network is closed, and its closure is written.
-ghost use Rattle.std.specs.Prelude.{◌≤◌, length, IfOk};
+//! The command `close`: the network of the source is closed, and its closure is written.
+ghost use Rattle.std.specs.Prelude.{◌≡◌, ◌⊎◌, ◌+◌, ◌<◌, ◌≤◌, ⊤, true, is_some, Some, IfOk, IfErr, OnOk, Ok};
 ghost use Rattle.std.specs.String.{string_bytes};
+ghost use Rattle.std.specs.Io.KnownBytes.{IsAtEnd};
 ghost use Rattle.network_words.specs.Network.{IsNetwork};
-ghost use Rattle.qsr_top.specs.Output.{IsVerdict, ClosesNetwork, CloseOutput};
-ghost use Rattle.qsr_top.specs.Ends.{IsCloseAnswer};
+ghost use Rattle.qsr_outside.specs.Counts.{Rose, RoseAbove};
+ghost use Rattle.qsr_outside.specs.Documents.{HasDocument};
+ghost use Rattle.qsr_words.specs.Asked.{close};
+ghost use Rattle.qsr_words.specs.Requests.{close_of};
+ghost use Rattle.qsr_top.specs.Stops.{HasCause, IsTooLongStop};
+ghost use Rattle.qsr_top.specs.Inputs.{builtin_of};
+ghost use Rattle.qsr_top.specs.Output.{IsVerdict, ClosesNetwork, CloseInput, Works};
+ghost use Rattle.qsr_top.specs.SinkAfter.{IsVerdictStatus};
+ghost use Rattle.qsr_top.specs.Told.{WhereTold};
 
 use crate::SOURCE_LIMIT;
-use crate::answers::{Answer, refused};
-use crate::reading::{Refusal, read_network};
+use crate::answers::Answer;
+use crate::inputs::{calculus, network};
 use crate::statuses::Status;
+use crate::stops::Stop;
 use calculus_table::{Calculus, Memory};
 use closure_seq::close;
 use network_file::text;
 use network_words::Net;
+use qsr_outside::{Shelf, Source};
+use qsr_words::Close;
 use std::alloc::Global;
 
-/// What closing writes of these bytes.
-pub(crate) fn close_bytes(
+/// What the request writes, or why nothing.
+pub(crate) fn close_answer<F: Shelf, S: Source>(
     alloc: Global,
-    bytes: &[u8],
-    calculus: &Calculus,
-) -> Result<Answer, Memory>
-    requires { length bytes.now ≤ SOURCE_LIMIT }
+    request: &Close,
+    shelf: &mut F,
+    source: &mut S,
+) -> Result<Answer, Stop>
     ensures output { IfOk result (λ answer.
-        CloseOutput calculus.now bytes.now (string_bytes answer.text) answer.status) }
-    ensures status { IfOk result (λ answer. IsCloseAnswer answer.status) }
+        WhereTold (Some (close (close_of request.now))) (F.documents shelf.old) (S.left source.old)
+        (λ documents bytes. Works (CloseInput documents (string_bytes request.now.calculus) bytes)
+        (λ p. ClosesNetwork p.calculus p.network) (string_bytes answer.text) answer.status)) }
+    ensures status { IfOk result (λ answer. IsVerdictStatus answer.status) }
+    ensures cause { IfErr result (λ stop.
+        WhereTold (Some (close (close_of request.now))) (F.documents shelf.old) (S.left source.old)
+        (λ documents bytes.
+        HasCause (CloseInput documents (string_bytes request.now.calculus) bytes) stop)) }
+    ensures ends { OnOk result (IsAtEnd (S.left source.new)) }
+
+    ensures read_fault { result ≡ Err Stop.ReadFault
+        → Rose (F.faults shelf.old) (F.faults shelf.new)
+        ⊎ Rose (S.faults source.old) (S.faults source.new) }
+    ensures too_long { result ≡ Err Stop.TooLong
+        → RoseAbove (F.given shelf.old) (F.given shelf.new) SOURCE_LIMIT
+        ⊎ RoseAbove (S.given source.old) (S.given source.new) SOURCE_LIMIT }
+    ensures above { S.given source.old + SOURCE_LIMIT < S.given source.new → IsTooLongStop result }
+    ensures faults_are_told { (result ≡ Err Stop.ReadFault)
+        ⊎ ((F.faults shelf.new ≡ F.faults shelf.old) × (S.faults source.new ≡ S.faults source.old)) }
+    ensures source_faults { S.faults source.old ≤ S.faults source.new }
+    ensures shelf_faults { F.faults shelf.old ≤ F.faults shelf.new }
+    ensures documents_stay { F.documents shelf.new ≡ F.documents shelf.old }
+    ensures absent_openings_stay { HasDocument (F.documents shelf.old) (string_bytes request.now.calculus) (λ _. ⊤)
+        → F.absent_openings shelf.new ≡ F.absent_openings shelf.old }
+    ensures builtin_stays { is_some (builtin_of (string_bytes request.now.calculus)) ≡ true
+        → shelf.new ≡ shelf.old }
 {
-    match read_network(alloc, bytes, calculus) {
-        Ok(net) => closed_answer(alloc, net, calculus),
-        Err(Refusal::Bytes { number, place }) => {
-            refused(alloc, number, place).map_err(|_| Memory)
-        }
-        Err(Refusal::Memory) => Err(Memory),
+    let calculus = calculus(alloc, shelf, request.calculus.as_str())?;
+    let net = network(alloc, source, &calculus)?;
+    match closed_answer(alloc, net, &calculus) {
+        Ok(answer) => Ok(answer),
+        Err(Memory) => Err(Stop::Memory),
     }
 }
 
@@ -40,7 +74,7 @@ fn closed_answer(alloc: Global, mut net: Net, calculus: &Calculus) -> Result<Ans
     requires { IsNetwork calculus.now.algebra net.nodes net.words }
     ensures output { IfOk result (λ answer.
         ClosesNetwork calculus.now net (string_bytes answer.text) answer.status) }
-    ensures status { IfOk result (λ answer. IsCloseAnswer answer.status) }
+    ensures status { IfOk result (λ answer. IsVerdictStatus answer.status) }
 {
     close(alloc, &mut net, calculus)?;
     let status = verdict(&net);
@@ -51,7 +85,7 @@ fn closed_answer(alloc: Global, mut net: Net, calculus: &Calculus) -> Result<Ans
 /// How a run ends that writes this closed network.
 fn verdict(net: &Net) -> Status
     ensures verdict { IsVerdict net.now result }
-    ensures status { IsCloseAnswer result }
+    ensures status { IsVerdictStatus result }
 {
     if net.words().contains(&0) {
         Status::No

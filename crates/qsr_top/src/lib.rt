@@ -3,11 +3,11 @@
 
 mod answers;
 mod closing;
-mod commands;
+mod inputs;
 mod laws;
-mod reading;
 mod running;
 mod statuses;
+mod stops;
 #[cfg(test)]
 mod tests;
 

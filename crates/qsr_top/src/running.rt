@@ -1,26 +1,30 @@
-//! The top call. It tests the words, lets the command make its answer whole, and only then writes it: so a fault of the
-//! source, or memory that runs out, writes nothing.
-ghost use Rattle.std.specs.Prelude.{◌≡◌, ◌⊎◌, ◌+◌, ◌<◌, ◌≤◌, [], IfSome, IfOk, IfErr, OnOk, map};
+//! The top call. It reads the words, lets the command make its answer whole, and only then writes it: so a fault of an input, or memory
+//! that runs out, writes nothing.
+ghost use Rattle.std.specs.Prelude.{◌≡◌, ◌⊎◌, ◌+◌, ◌<◌, ◌≤◌, [], None, false, IfOk, IfErr, map};
 ghost use Rattle.std.specs.Io.KnownBytes.{Appends, IsAtEnd};
 ghost use Rattle.std.specs.String.{string_bytes};
-ghost use Rattle.calculus_builtin.specs.Rcc8.{rcc8_calculus};
 ghost use Rattle.qsr_outside.specs.Counts.{Rose, RoseAbove};
-ghost use Rattle.qsr_outside.specs.Reading.{IsTooLongOrMemory as IsStopTooLongOrMemory};
+ghost use Rattle.qsr_outside.specs.Reading.{IsTooLongOrMemory as IsTooLongStop};
 ghost use Rattle.qsr_outside.specs.Writing.{AppendsPart};
-ghost use Rattle.qsr_top.specs.Output.{close_words, usage_text, CloseOutput, Output};
-ghost use Rattle.qsr_top.specs.Ends.{MayEnd, IsAnswered, IsCloseAnswer, IsTooLongOrMemory, end_of_stop};
-ghost use Rattle.qsr_top.specs.SinkAfter.{LeavesInSink, LeavesByStatus, IsTextFor, IsWritten};
+ghost use Rattle.qsr_words.specs.Asked.{asked_by};
+ghost use Rattle.qsr_top.specs.Output.{Output, usage_text};
+ghost use Rattle.qsr_top.specs.Ends.{MayEnd, IsAnswered, IsTooLongOrMemory, end_of_stop};
+ghost use Rattle.qsr_top.specs.Spoken.{IsSpoken};
+ghost use Rattle.qsr_top.specs.SinkAfter.{LeavesInSink, LeavesByStatus, IsWritten};
+ghost use Rattle.qsr_top.specs.Told.{WhereTold, AbsentStays, names_document};
 
 use crate::SOURCE_LIMIT;
-use crate::answers::{Answer, usage};
-use crate::closing::close_bytes;
-use crate::commands::is_close;
+use crate::answers::{Answer, refused, usage};
+use crate::closing::close_answer;
 use crate::statuses::Status;
-use calculus_builtin::rcc8;
-use qsr_outside::{Gate, ReadStop, Shelf, Sink, Source, WriteStop, read_all, write_all};
+use crate::stops::Stop;
+use calculus_table::Memory;
+use qsr_outside::{Gate, ReadStop, Shelf, Sink, Source, WriteStop, write_all};
+use qsr_words::{Request, read};
 use std::alloc::Global;
 
-/// Runs the reasoner on its words: reads the source where the command reads it, and writes the answer to the sink.
+/// Runs the reasoner on its words: reads the documents that they name and the source, as the command asks, and writes the answer to
+/// the sink.
 pub fn run<F: Shelf, S: Source, W: Sink, G: Gate + Sync>(
     alloc: Global,
     words: &[String],
@@ -29,98 +33,112 @@ pub fn run<F: Shelf, S: Source, W: Sink, G: Gate + Sync>(
     sink: &mut W,
     gate: &G,
 ) -> Status
-    // What is left in the sink: over a source that tells its bytes, and over every source.
-    ensures output { IfSome (S.left source.old) (λ bytes.
-        LeavesInSink (map string_bytes words.now) bytes (W.held sink.old) (W.held sink.new) result) }
+    // What is left in the sink: where the inputs are told that the words ask for, and over every input.
+    ensures output { WhereTold (asked_by (map string_bytes words.now))
+        (F.documents shelf.old) (S.left source.old) (λ documents bytes.
+        LeavesInSink (asked_by (map string_bytes words.now)) documents bytes
+        (W.held sink.old) (W.held sink.new) result) }
     ensures by_status { LeavesByStatus (W.held sink.old) (W.held sink.new) result }
-    ensures usage_part { ¬ (map string_bytes words.now ≡ close_words)
+    ensures usage_part { asked_by (map string_bytes words.now) ≡ None
         → result ≡ Status.WriteFault → AppendsPart (W.held sink.old) (W.held sink.new) usage_text }
 
-    // How a run may end, and when, over every source and sink.
-    ensures status { MayEnd (map string_bytes words.now) result }
+    // How a run may end, and when, over every input and sink.
+    ensures status { MayEnd (asked_by (map string_bytes words.now)) result }
     ensures read_fault { result ≡ Status.ReadFault
-        → Rose (S.faults source.old) (S.faults source.new) }
+        → Rose (F.faults shelf.old) (F.faults shelf.new)
+        ⊎ Rose (S.faults source.old) (S.faults source.new) }
     ensures write_fault { result ≡ Status.WriteFault
         → Rose (W.faults sink.old) (W.faults sink.new) }
-    ensures source_faults_are_told { (result ≡ Status.ReadFault)
-        ⊎ (S.faults source.new ≡ S.faults source.old) }
-    ensures sink_faults_are_told { (result ≡ Status.WriteFault)
+    ensures read_faults_are_told { (result ≡ Status.ReadFault)
+        ⊎ ((F.faults shelf.new ≡ F.faults shelf.old) × (S.faults source.new ≡ S.faults source.old)) }
+    ensures write_faults_are_told { (result ≡ Status.WriteFault)
         ⊎ (W.faults sink.new ≡ W.faults sink.old) }
     ensures too_long { result ≡ Status.TooLong
-        → RoseAbove (S.given source.old) (S.given source.new) SOURCE_LIMIT }
+        → RoseAbove (F.given shelf.old) (F.given shelf.new) SOURCE_LIMIT
+        ⊎ RoseAbove (S.given source.old) (S.given source.new) SOURCE_LIMIT }
     ensures above { S.given source.old + SOURCE_LIMIT < S.given source.new
         → IsTooLongOrMemory result }
 
     // What stays, and what is read.
-    ensures usage_source { ¬ (map string_bytes words.now ≡ close_words) → source.new ≡ source.old }
+    ensures source_stays { asked_by (map string_bytes words.now) ≡ None → source.new ≡ source.old }
+    ensures shelf_stays { names_document (asked_by (map string_bytes words.now)) ≡ false
+        → shelf.new ≡ shelf.old }
     ensures ends { IsAnswered result → IsAtEnd (S.left source.new) }
-    ensures shelf_stays { shelf.new ≡ shelf.old }
+    ensures documents_stay { F.documents shelf.new ≡ F.documents shelf.old }
+    ensures absent_openings_stay { AbsentStays (asked_by (map string_bytes words.now))
+        (F.documents shelf.old) (F.absent_openings shelf.old) (F.absent_openings shelf.new) }
+    ensures shelf_faults { F.faults shelf.old ≤ F.faults shelf.new }
     ensures source_faults { S.faults source.old ≤ S.faults source.new }
     ensures sink_faults { W.faults sink.old ≤ W.faults sink.new }
 {
-    let _ = shelf;
     let _ = gate;
-    match answer(alloc, words, source) {
+    match answer(alloc, words, shelf, source) {
         Ok(answer) => write_answer(sink, &answer),
-        Err(stop) => status_of(stop),
+        Err(stop) => end_of_stop(stop),
     }
 }
 
 /// What is to be written, or why nothing is.
-fn answer<S: Source>(alloc: Global, words: &[String], source: &mut S) -> Result<Answer, ReadStop>
-    ensures output { IfOk result (λ answer. IfSome (S.left source.old) (λ bytes.
-        Output (map string_bytes words.now) bytes (string_bytes answer.text) answer.status)) }
-    ensures status { IfOk result (λ answer.
-        IsWritten (map string_bytes words.now) answer.status (string_bytes answer.text)) }
+fn answer<F: Shelf, S: Source>(
+    alloc: Global,
+    words: &[String],
+    shelf: &mut F,
+    source: &mut S,
+) -> Result<Answer, ReadStop>
+    ensures output { IfOk result (λ answer. WhereTold (asked_by (map string_bytes words.now))
+        (F.documents shelf.old) (S.left source.old) (λ documents bytes.
+        Output (asked_by (map string_bytes words.now)) documents bytes
+        (string_bytes answer.text) answer.status)) }
+    ensures status { IfOk result (λ answer. IsWritten (asked_by (map string_bytes words.now))
+        (string_bytes answer.text) answer.status) }
     ensures ends { IfOk result (λ answer. IsAnswered answer.status → IsAtEnd (S.left source.new)) }
-    ensures usage_stop { ¬ (map string_bytes words.now ≡ close_words)
+    ensures usage_stop { asked_by (map string_bytes words.now) ≡ None
         → IfErr result (λ stop. stop ≡ ReadStop.Memory) }
-    ensures usage_source { ¬ (map string_bytes words.now ≡ close_words) → source.new ≡ source.old }
+    ensures too_long_output { result ≡ Err ReadStop.TooLong
+        → WhereTold (asked_by (map string_bytes words.now)) (F.documents shelf.old)
+        (S.left source.old) (λ documents bytes.
+        Output (asked_by (map string_bytes words.now)) documents bytes [] Status.TooLong) }
+
     ensures read_fault { result ≡ Err ReadStop.ReadFault
-        → Rose (S.faults source.old) (S.faults source.new) }
+        → Rose (F.faults shelf.old) (F.faults shelf.new)
+        ⊎ Rose (S.faults source.old) (S.faults source.new) }
     ensures too_long { result ≡ Err ReadStop.TooLong
-        → RoseAbove (S.given source.old) (S.given source.new) SOURCE_LIMIT }
-    ensures too_long_output { result ≡ Err ReadStop.TooLong → IfSome (S.left source.old)
-        (λ bytes. Output (map string_bytes words.now) bytes [] Status.TooLong) }
-    ensures above { S.given source.old + SOURCE_LIMIT < S.given source.new
-        → IsStopTooLongOrMemory result }
+        → RoseAbove (F.given shelf.old) (F.given shelf.new) SOURCE_LIMIT
+        ⊎ RoseAbove (S.given source.old) (S.given source.new) SOURCE_LIMIT }
+    ensures above { S.given source.old + SOURCE_LIMIT < S.given source.new → IsTooLongStop result }
     ensures faults_are_told { (result ≡ Err ReadStop.ReadFault)
-        ⊎ (S.faults source.new ≡ S.faults source.old) }
-    ensures faults_never_fall { S.faults source.old ≤ S.faults source.new }
+        ⊎ ((F.faults shelf.new ≡ F.faults shelf.old) × (S.faults source.new ≡ S.faults source.old)) }
+
+    ensures source_stays { asked_by (map string_bytes words.now) ≡ None → source.new ≡ source.old }
+    ensures shelf_stays { names_document (asked_by (map string_bytes words.now)) ≡ false
+        → shelf.new ≡ shelf.old }
+    ensures documents_stay { F.documents shelf.new ≡ F.documents shelf.old }
+    ensures absent_openings_stay { AbsentStays (asked_by (map string_bytes words.now))
+        (F.documents shelf.old) (F.absent_openings shelf.old) (F.absent_openings shelf.new) }
+    ensures shelf_faults { F.faults shelf.old ≤ F.faults shelf.new }
+    ensures source_faults { S.faults source.old ≤ S.faults source.new }
 {
-    if is_close(words) {
-        close_source(alloc, source)
-    } else {
-        usage(alloc).map_err(|_| ReadStop::Memory)
+    match read(alloc, words) {
+        Ok(Some(Request::Close(request))) => {
+            spoken(alloc, close_answer(alloc, &request, shelf, source))
+        }
+        Ok(None) => usage(alloc).map_err(|_| ReadStop::Memory),
+        Err(Memory) => Err(ReadStop::Memory),
     }
 }
 
-/// What closing writes of the source.
-fn close_source<S: Source>(alloc: Global, source: &mut S) -> Result<Answer, ReadStop>
-    ensures output { IfOk result (λ answer. IfSome (S.left source.old) (λ bytes.
-        CloseOutput rcc8_calculus bytes (string_bytes answer.text) answer.status)) }
-    ensures status { IfOk result (λ answer. IsCloseAnswer answer.status) }
-    ensures text { IfOk result (λ answer. IsTextFor answer.status (string_bytes answer.text)) }
-    ensures ends { OnOk result (IsAtEnd (S.left source.new)) }
-    ensures read_fault { result ≡ Err ReadStop.ReadFault
-        → Rose (S.faults source.old) (S.faults source.new) }
-    ensures too_long { result ≡ Err ReadStop.TooLong
-        → RoseAbove (S.given source.old) (S.given source.new) SOURCE_LIMIT }
-    ensures too_long_output { result ≡ Err ReadStop.TooLong → IfSome (S.left source.old)
-        (λ bytes. CloseOutput rcc8_calculus bytes [] Status.TooLong) }
-    ensures above { S.given source.old + SOURCE_LIMIT < S.given source.new
-        → IsStopTooLongOrMemory result }
-    ensures faults_are_told { (result ≡ Err ReadStop.ReadFault)
-        ⊎ (S.faults source.new ≡ S.faults source.old) }
-    ensures faults_never_fall { S.faults source.old ≤ S.faults source.new }
+/// The answer of a command, where a refusal is the line that tells it.
+fn spoken(alloc: Global, answer: Result<Answer, Stop>) -> Result<Answer, ReadStop>
+    ensures { IsSpoken answer result }
 {
-    let Ok(calculus) = rcc8(alloc) else {
-        return Err(ReadStop::Memory);
-    };
-    let bytes = read_all(alloc, source, SOURCE_LIMIT)?;
-    match close_bytes(alloc, &bytes, &calculus) {
+    match answer {
         Ok(answer) => Ok(answer),
-        Err(_) => Err(ReadStop::Memory),
+        Err(Stop::Refused { number, place }) => {
+            refused(alloc, number, place).map_err(|_| ReadStop::Memory)
+        }
+        Err(Stop::TooLong) => Err(ReadStop::TooLong),
+        Err(Stop::ReadFault) => Err(ReadStop::ReadFault),
+        Err(Stop::Memory) => Err(ReadStop::Memory),
     }
 }
 
@@ -141,7 +159,7 @@ fn write_answer<W: Sink>(sink: &mut W, answer: &Answer) -> Status
 }
 
 /// The status of a run that writes nothing.
-fn status_of(stop: ReadStop) -> Status
+fn end_of_stop(stop: ReadStop) -> Status
     ensures { result ≡ end_of_stop stop }
 {
     match stop {

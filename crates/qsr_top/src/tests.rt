@@ -1,4 +1,6 @@
 use crate::{Place, Status, run};
+use calculus_builtin::rcc8;
+use calculus_load::text;
 use qsr_outside::{BytesSink, BytesSource, Gate, MapShelf, NoGate};
 use std::alloc::Global;
 use std::process::Abort;
@@ -31,6 +33,23 @@ fn ran<G: Gate + Sync>(
     let mut sink = BytesSink::new(alloc, 5, failing_writes)?;
     sink.reserve(4096)?;
     let status = run(alloc, &words, &mut shelf, &mut source, &mut sink, gate);
+    Ok((status, sink.bytes().to_vec(alloc)?))
+}
+
+/// Runs `close` over a shelf that has one document, `table`.
+fn closed_by_table(
+    alloc: Global,
+    table: &[u8],
+    name: &str,
+    source: &[u8],
+) -> Result<(Status, Vec<u8>), Fail> {
+    let words = owned(alloc, &["close", name])?;
+    let mut shelf = MapShelf::new(alloc, &[])?;
+    shelf.put("table", table)?;
+    let mut source = BytesSource::new(alloc, source, 4096, &[])?;
+    let mut sink = BytesSink::new(alloc, 4096, &[])?;
+    sink.reserve(4096)?;
+    let status = run(alloc, &words, &mut shelf, &mut source, &mut sink, &NoGate);
     Ok((status, sink.bytes().to_vec(alloc)?))
 }
 
@@ -99,6 +118,73 @@ fn closing_writes_the_closure(rt: HostRuntime) -> Result<(), Fail> {
 }
 
 #[test]
+fn every_built_in_calculus_closes_a_network(rt: HostRuntime) -> Result<(), Fail> {
+    // the calculus, two facts, and what follows of the third edge
+    let rows: [(&str, &str, &str, &str); 4] = [
+        ("allen", "( b )", "( m )", "( b )"),
+        ("allen", "( o )", "( d )", "( o s d )"),
+        ("point", "( < )", "( = )", "( < )"),
+        ("rcc8", "( TPP )", "( NTPP )", "( NTPP )"),
+    ];
+    let alloc = rt.alloc();
+    for (calculus, first, second, along) in rows.iter() {
+        let source = format!(in alloc; "nodes 3\n0 1 {first}\n1 2 {second}\n.\n")?;
+        let answer = format!(in alloc; "nodes 3\n0 1 {first}\n0 2 {along}\n1 2 {second}\n.\n")?;
+        for workers in ["--workers=1", "--workers=4", "--workers=64"].iter() {
+            let words = ["close", *calculus, *workers];
+            let (status, written) = ran(alloc, &words, source.as_bytes(), &[], &[], &NoGate)?;
+            assert_eq!(rt; status, Status::Done);
+            assert_eq!(rt; written.as_slice(), answer.as_bytes());
+        }
+    }
+    Ok(())
+}
+
+const RAMSEY: &[u8] = b"names ( id a b )\nidentity id\nid :: id\na :: a\nb :: b\nid : id :: ( id )\nid : a :: ( a )\nid : b :: ( b )\na : id :: ( a )\na : a :: ( id b )\na : b :: ( a b )\nb : id :: ( b )\nb : a :: ( a b )\nb : b :: ( id a )\n.\n";
+
+#[test]
+fn a_table_file_gives_its_calculus(rt: HostRuntime) -> Result<(), Fail> {
+    let source = b"nodes 3\n0 1 ( a b )\n0 2 ( a b )\n1 2 ( a b )\n.\n";
+    let (status, written) = closed_by_table(rt.alloc(), RAMSEY, "table", source)?;
+    assert_eq!(rt; status, Status::Done);
+    assert_eq!(rt; written.as_slice(), source.as_slice());
+    let rcc8 = rcc8(rt.alloc()).map_err(|_| "memory")?;
+    let table = text(rt.alloc(), &rcc8).map_err(|_| "memory")?;
+    let source = b"nodes 3\n0 1 ( TPP )\n1 2 ( NTPP )\n.\n";
+    let (status, written) = closed_by_table(rt.alloc(), table.as_bytes(), "table", source)?;
+    assert_eq!(rt; status, Status::Done);
+    assert_eq!(rt;
+        written.as_slice(),
+        b"nodes 3\n0 1 ( TPP )\n0 2 ( NTPP )\n1 2 ( NTPP )\n.\n".as_slice()
+    );
+    Ok(())
+}
+
+#[test]
+fn a_faulty_table_is_refused_before_the_source_is_read(rt: HostRuntime) -> Result<(), Fail> {
+    // the table file, and the line that refuses it
+    let rows: [(&[u8], &str); 4] = [
+        (b"", "refused 9 1\n"),
+        (b"names ( a a )\nidentity a\n.\n", "refused 4 1\n"),
+        (b"names ( a )\nidentity b\n.\n", "refused 10 2\n"),
+        (b"names ( a )\nidentity a\na :: a\n.\n", "refused 11 0 0\n"),
+    ];
+    for (table, line) in rows.iter() {
+        let (_, written) = closed_by_table(rt.alloc(), table, "table", b"no network")?;
+        assert_eq!(rt; written.as_slice(), line.as_bytes(), "{table:?}");
+    }
+    Ok(())
+}
+
+#[test]
+fn an_absent_table_file_fails(rt: HostRuntime) -> Result<(), Fail> {
+    let (status, written) = closed_by_table(rt.alloc(), RAMSEY, "nowhere", b"nodes 1\n.\n")?;
+    assert_eq!(rt; status, Status::ReadFault);
+    assert_eq!(rt; written.len(), 0);
+    Ok(())
+}
+
+#[test]
 fn faulty_sources_are_refused_with_number_and_place(rt: HostRuntime) -> Result<(), Fail> {
     let rows: [(&[u8], &str, Status); 12] = [
         (b"", "refused 20 0\n", refused(20, 0)),
@@ -147,11 +233,14 @@ fn faulty_sources_are_refused_with_number_and_place(rt: HostRuntime) -> Result<(
 
 #[test]
 fn other_words_have_the_usage_line(rt: HostRuntime) -> Result<(), Fail> {
-    let wrong: [&[&str]; 5] = [
+    let wrong: [&[&str]; 8] = [
         &[],
         &["close"],
-        &["close", "allen"],
         &["close", "rcc8", "extra"],
+        &["close", "rcc8", "--workers", "65"],
+        &["close", "rcc8", "--workers"],
+        &["--workers", "2", "close", "rcc8"],
+        &["close", "rcc8", "--workers="],
         &["--help"],
     ];
     for words in wrong.iter() {

@@ -1,0 +1,141 @@
+-- Each input has one value or one cause.
+use Rattle.std.proofs.Common.{◌≡◌, ℕ, ◌<◌, ◌≤◌, List, length, Option, None, Some, Result, Ok, Err, refl, sym, ◌∙◌, ap, subst, arith}
+use Rattle.std.specs.Prelude.{IsSomeAnd, MatchOption}
+use Rattle.calculus_table.specs.Calculus.{NamedAlgebra, IsNamedCalculus}
+use Rattle.calculus_table.specs.TableFault.{IsFaultOf}
+use Rattle.calculus_table.specs.declared.calculus.TableFault.{TableFault}
+use Rattle.calculus_table.specs.declared.calculus.TableFault.TheVariants as table
+use Rattle.calculus_table.proofs.Faults.{fault-one, no-fault}
+use Rattle.calculus_load.specs.TableFile.{table_of, IsLoadFaultOf, IsTableFaultOf}
+use Rattle.calculus_load.specs.declared.fault.LoadFault.{LoadFault}
+use Rattle.calculus_load.specs.declared.fault.LoadFault.TheVariants as load
+use Rattle.network_words.specs.Network.{Network}
+use Rattle.network_file.specs.NetworkFile.{IsFileOf, read_network}
+use Rattle.network_file.specs.declared.fault.FileFault.{FileFault}
+use Rattle.network_file.proofs.ReadAgain.{file_is_of_one}
+use Rattle.qsr_outside.specs.Documents.{Documents, document}
+use Rattle.qsr_top.specs.Stops.{Cause, refuses, is_long}
+use Rattle.qsr_top.specs.Parts.{Then, IsOne}
+use Rattle.qsr_top.specs.Numbers.{load_refusal, file_refusal}
+use Rattle.qsr_top.specs.Inputs.{BytesWithin, DocumentOf, TableOf, RefusesTable, CalculusOf, builtin_of, NetworkOf, RefusesNetwork, SourceNetwork}
+use Rattle.qsr_top.specs.Output.{CloseInput, Problem}
+use Rattle.qsr_top.specs.declared.statuses.Place.{Place}
+use Rattle.qsr_top.proofs.Parts.{Then-one}
+
+pub BytesWithin-one : (bytes : List ℕ) → IsOne (BytesWithin bytes)
+BytesWithin-one bytes (Ok t) (Ok u) p q = ap Ok (p.1 ∙ sym q.1)
+BytesWithin-one bytes (Ok t) (Err is_long) p q = absurd (omega (arith, p.0))
+BytesWithin-one bytes (Ok t) (Err (refuses number place)) p q = absurd q
+BytesWithin-one bytes (Err is_long) (Ok u) p q = absurd (omega (arith, q.0))
+BytesWithin-one bytes (Err is_long) (Err is_long) p q = refl
+BytesWithin-one bytes (Err is_long) (Err (refuses number place)) p q = absurd q
+BytesWithin-one bytes (Err (refuses number place)) y p q = absurd p
+
+some_once : (o : Option (List ℕ)) (x y : Result (List ℕ) Cause) → IsSomeAnd o (λ bytes. BytesWithin bytes x) → IsSomeAnd o (λ bytes. BytesWithin bytes y) → x ≡ y
+some_once None x y p q = absurd p
+some_once (Some bytes) x y p q = BytesWithin-one bytes x y p q
+
+pub DocumentOf-one : (documents : Documents) (name : List ℕ) → IsOne (DocumentOf documents name)
+DocumentOf-one documents name x y p q = some_once (document documents name) x y p q
+
+-- ---- table files
+
+none_or_some : (n : ℕ) (p : Place) → None ≡ Some (n, p) → ⊥
+none_or_some n p e = cc
+
+-- a fault of a table that has a number is no want of memory
+table_fault_of : (c : NamedAlgebra) (f : TableFault) → IsTableFaultOf c f → IsFaultOf c.names c.algebra f × (f ≡ table.Memory → ⊥)
+table_fault_of c table.Memory h = absurd h
+table_fault_of c (table.NameTwice at) h = (h, λ e. cc)
+table_fault_of c (table.NotInvolution r) h = (h, λ e. cc)
+table_fault_of c (table.IdentityLaw r) h = (h, λ e. cc)
+table_fault_of c (table.ConverseLaw r s t) h = (h, λ e. cc)
+table_fault_of c (table.CycleLaw r s t) h = (h, λ e. cc)
+
+same_table_fault : (c : NamedAlgebra) (f g : TableFault) → IsTableFaultOf c f → IsTableFaultOf c g → f ≡ g
+same_table_fault c f g h k =
+    let p = table_fault_of c f h in let q = table_fault_of c g k in fault-one c.names c.algebra f g p.0 q.0 p.1 q.1
+
+-- two numbered faults of a file are one
+numbered_fault : (table : Result NamedAlgebra LoadFault) (f g : LoadFault) (m n : ℕ) (p q : Place) → IsLoadFaultOf table f → IsLoadFaultOf table g →
+    load_refusal f ≡ Some (m, p) → load_refusal g ≡ Some (n, q) → f ≡ g
+numbered_fault table load.Memory g m n p q h k a b = absurd (none_or_some m p a)
+numbered_fault table f load.Memory m n p q h k a b = absurd (none_or_some n q b)
+numbered_fault (Err fault) f g m n p q h k a b = h ∙ sym k
+numbered_fault (Ok c) (load.Table f) (load.Table g) m n p q h k a b = ap load.Table (same_table_fault c f g h k)
+numbered_fault (Ok c) (load.Table f) g m n p q h k a b = absurd k
+numbered_fault (Ok c) f g m n p q h k a b = absurd h
+
+some_pair : (m n : ℕ) (p q : Place) → Some (m, p) ≡ Some (n, q) → (m ≡ n) × (p ≡ q)
+some_pair m n p q e = (cc, cc)
+
+pair_of : (f g : Option (ℕ × Place)) (m n : ℕ) (p q : Place) → f ≡ g → f ≡ Some (m, p) → g ≡ Some (n, q) → refuses m p ≡ refuses n q
+pair_of f g m n p q e a b =
+    let same = some_pair m n p q (sym a ∙ e ∙ b) in ap (λ k. refuses k p) same.0 ∙ ap (refuses n) same.1
+
+tables_refused : (bytes : List ℕ) (m n : ℕ) (p q : Place) → RefusesTable bytes m p → RefusesTable bytes n q → refuses m p ≡ refuses n q
+tables_refused bytes m n p q h k =
+    pair_of (load_refusal h.fault) (load_refusal k.fault) m n p q (ap load_refusal (numbered_fault (table_of bytes) h.fault k.fault m n p q h.refused k.refused h.numbered k.numbered)) h.numbered k.numbered
+
+-- a table that is a calculus isn't refused
+calculus_or_refused : (c : NamedAlgebra) (f : LoadFault) (m : ℕ) (p : Place) → IsNamedCalculus c → IsLoadFaultOf (Ok c) f → load_refusal f ≡ Some (m, p) → ⊥
+calculus_or_refused c load.Memory m p lawful h e = none_or_some m p e
+calculus_or_refused c (load.Table f) m p lawful h e = let t = table_fault_of c f h in t.1 (no-fault c.names c.algebra f lawful.lawful lawful.distinct t.0)
+calculus_or_refused c f m p lawful h e = absurd h
+
+table_or_refused : (bytes : List ℕ) (c : NamedAlgebra) (m : ℕ) (p : Place) → TableOf bytes (Ok c) → RefusesTable bytes m p → ⊥
+table_or_refused bytes c m p h k =
+    calculus_or_refused c k.fault m p h.1 (subst (λ t. IsLoadFaultOf t k.fault) h.0 k.refused) k.numbered
+
+ok_alike : {A E : Type 0} (r : Result A E) (x y : A) → r ≡ Ok x → r ≡ Ok y → x ≡ y
+ok_alike r x y p q = cc
+
+pub TableOf-one : (bytes : List ℕ) → IsOne (TableOf bytes)
+TableOf-one bytes (Ok c) (Ok d) p q = ap Ok (ok_alike (table_of bytes) c d p.0 q.0)
+TableOf-one bytes (Ok c) (Err (refuses number place)) p q = absurd (table_or_refused bytes c number place p q)
+TableOf-one bytes (Ok c) (Err is_long) p q = absurd q
+TableOf-one bytes (Err (refuses number place)) (Ok d) p q = absurd (table_or_refused bytes d number place q p)
+TableOf-one bytes (Err (refuses m p)) (Err (refuses n q)) h k = ap Err (tables_refused bytes m n p q h k)
+TableOf-one bytes (Err (refuses number place)) (Err is_long) p q = absurd q
+TableOf-one bytes (Err is_long) y p q = absurd p
+
+calculus_once : (documents : Documents) (word : List ℕ) (o : Option NamedAlgebra) (x y : Result NamedAlgebra Cause) →
+    MatchOption o (Then (DocumentOf documents word) TableOf x) (λ c. x ≡ Ok c) → MatchOption o (Then (DocumentOf documents word) TableOf y) (λ c. y ≡ Ok c) → x ≡ y
+calculus_once documents word None x y p q = Then-one (DocumentOf documents word) TableOf (DocumentOf-one documents word) TableOf-one x y p q
+calculus_once documents word (Some c) x y p q = p ∙ sym q
+
+pub CalculusOf-one : (documents : Documents) (word : List ℕ) → IsOne (CalculusOf documents word)
+CalculusOf-one documents word x y p q = calculus_once documents word (builtin_of word) x y p q
+
+-- ---- network files
+
+networks_refused : (c : NamedAlgebra) (bytes : List ℕ) (m n : ℕ) (p q : Place) → RefusesNetwork c bytes m p → RefusesNetwork c bytes n q → refuses m p ≡ refuses n q
+networks_refused c bytes m n p q h k =
+    pair_of (file_refusal h.fault) (file_refusal k.fault) m n p q (ap file_refusal (fault_alike (read_network c bytes) h.fault k.fault h.refused k.refused)) h.numbered k.numbered
+  where
+    fault_alike : {A : Type 0} (r : Result A FileFault) (f g : FileFault) → r ≡ Err f → r ≡ Err g → f ≡ g
+    fault_alike r f g a b = cc
+
+network_or_refused : (c : NamedAlgebra) (bytes : List ℕ) (net : Network) (m : ℕ) (p : Place) → IsFileOf c bytes net → RefusesNetwork c bytes m p → ⊥
+network_or_refused c bytes net m p h k = let a = h.reads in let b = k.refused in cc
+
+pub NetworkOf-one : (c : NamedAlgebra) (bytes : List ℕ) → IsOne (NetworkOf c bytes)
+NetworkOf-one c bytes (Ok x) (Ok y) p q = ap Ok (file_is_of_one c bytes x y p q)
+NetworkOf-one c bytes (Ok x) (Err (refuses number place)) p q = absurd (network_or_refused c bytes x number place p q)
+NetworkOf-one c bytes (Ok x) (Err is_long) p q = absurd q
+NetworkOf-one c bytes (Err (refuses number place)) (Ok y) p q = absurd (network_or_refused c bytes y number place q p)
+NetworkOf-one c bytes (Err (refuses m p)) (Err (refuses n q)) h k = ap Err (networks_refused c bytes m n p q h k)
+NetworkOf-one c bytes (Err (refuses number place)) (Err is_long) p q = absurd q
+NetworkOf-one c bytes (Err is_long) y p q = absurd p
+
+pub SourceNetwork-one : (bytes : List ℕ) (c : NamedAlgebra) → IsOne (SourceNetwork bytes c)
+SourceNetwork-one bytes c = Then-one (BytesWithin bytes) (NetworkOf c) (BytesWithin-one bytes) (NetworkOf-one c)
+
+-- ---- the input of closing
+
+problem_once : (c : NamedAlgebra) (net : Network) → IsOne (λ result. result ≡ Ok (record { calculus = c; network = net }))
+problem_once c net x y p q = p ∙ sym q
+
+pub CloseInput-one : (documents : Documents) (word bytes : List ℕ) → IsOne (CloseInput documents word bytes)
+CloseInput-one documents word bytes = Then-one (CalculusOf documents word) _ (CalculusOf-one documents word)
+    (λ c. Then-one (SourceNetwork bytes c) _ (SourceNetwork-one bytes c) (λ net. problem_once c net))

@@ -1,0 +1,54 @@
+-- The number and the place with which each fault of an input is refused. Out of memory has none.
+use Rattle.std.specs.Prelude.{ℕ, Option, None, Some}
+use Rattle.calculus_table.specs.declared.calculus.TableFault.{TableFault}
+use Rattle.calculus_table.specs.declared.calculus.TableFault.TheVariants as table
+use Rattle.calculus_load.specs.declared.fault.LoadFault.{LoadFault}
+use Rattle.calculus_load.specs.declared.fault.LoadFault.TheVariants as load
+use Rattle.network_file.specs.declared.fault.FileFault.{FileFault}
+use Rattle.network_file.specs.declared.fault.FileFault.TheVariants as file
+use Rattle.qsr_top.specs.declared.statuses.Place.{Place}
+
+-- places of one, two and three numbers
+abbrev pub place_of_one : ℕ → Place
+place_of_one a = record { count = 1; a = a; b = 0; c = 0 }
+
+abbrev pub place_of_two : ℕ → ℕ → Place
+place_of_two a b = record { count = 2; a = a; b = b; c = 0 }
+
+abbrev pub place_of_three : ℕ → ℕ → ℕ → Place
+place_of_three a b c = record { count = 3; a = a; b = b; c = c }
+
+-- of a table of numbers: the position of a name, a base relation, or three of them
+abbrev pub table_refusal : TableFault → Option (ℕ × Place)
+table_refusal (table.NameTwice at) = Some (4, place_of_one at)
+table_refusal (table.NotInvolution r) = Some (5, place_of_one r)
+table_refusal (table.IdentityLaw r) = Some (6, place_of_one r)
+table_refusal (table.ConverseLaw r s t) = Some (7, place_of_three r s t)
+table_refusal (table.CycleLaw r s t) = Some (8, place_of_three r s t)
+table_refusal table.Memory = None
+
+-- of a converse that is missing, or of a composition
+abbrev pub missing_place : ℕ → Option ℕ → Place
+missing_place r None = place_of_one r
+missing_place r (Some s) = place_of_two r s
+
+-- of a table file: a line, or what is missing, or the fault of the table
+abbrev pub load_refusal : LoadFault → Option (ℕ × Place)
+load_refusal (load.Table fault) = table_refusal fault
+load_refusal (load.Syntax line) = Some (9, place_of_one line)
+load_refusal (load.Unknown line) = Some (10, place_of_one line)
+load_refusal (load.Missing r s) = Some (11, missing_place r s)
+load_refusal (load.Twice line) = Some (12, place_of_one line)
+load_refusal (load.TooMany line) = Some (13, place_of_one line)
+load_refusal load.Memory = None
+
+-- of a network file: a line, or the number of lines where the end line is missing
+abbrev pub file_refusal : FileFault → Option (ℕ × Place)
+file_refusal (file.Nodes line) = Some (14, place_of_one line)
+file_refusal (file.NoNode line) = Some (15, place_of_one line)
+file_refusal (file.SelfEdge line) = Some (16, place_of_one line)
+file_refusal (file.NameTwice line) = Some (17, place_of_one line)
+file_refusal (file.Syntax line) = Some (18, place_of_one line)
+file_refusal (file.Unknown line) = Some (19, place_of_one line)
+file_refusal (file.NoEnd lines) = Some (20, place_of_one lines)
+file_refusal file.Memory = None
