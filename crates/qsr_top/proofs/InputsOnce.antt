@@ -1,5 +1,5 @@
 -- Each input has one value or one cause.
-use Rattle.std.proofs.Common.{◌≡◌, ℕ, ◌<◌, ◌≤◌, List, length, Option, None, Some, Result, Ok, Err, refl, sym, ◌∙◌, ap, subst, arith}
+use Rattle.std.proofs.Common.{◌≡◌, ℕ, List, Option, None, Some, Result, Ok, Err, refl, sym, ◌∙◌, ap, subst, arith}
 use Rattle.std.specs.Prelude.{IsSomeAnd, MatchOption}
 use Rattle.calculus_table.specs.Calculus.{NamedAlgebra, IsNamedCalculus}
 use Rattle.calculus_table.specs.TableFault.{IsFaultOf}
@@ -18,7 +18,7 @@ use Rattle.qsr_top.specs.Stops.{Cause, refuses, is_long}
 use Rattle.qsr_top.specs.Parts.{Then, IsOne}
 use Rattle.qsr_top.specs.Numbers.{load_refusal, file_refusal}
 use Rattle.qsr_top.specs.Inputs.{BytesWithin, DocumentOf, TableOf, RefusesTable, CalculusOf, builtin_of, NetworkOf, RefusesNetwork, SourceNetwork}
-use Rattle.qsr_top.specs.Output.{CloseInput, Problem}
+use Rattle.qsr_top.specs.Output.{CloseInput, IsProblem}
 use Rattle.qsr_top.specs.declared.statuses.Place.{Place}
 use Rattle.qsr_top.proofs.Parts.{Then-one}
 
@@ -40,8 +40,8 @@ DocumentOf-one documents name x y p q = some_once (document documents name) x y 
 
 -- ---- table files
 
-none_or_some : (n : ℕ) (p : Place) → None ≡ Some (n, p) → ⊥
-none_or_some n p e = cc
+none_or_some : (n : ℕ) (p : Place) (o : Option (ℕ × Place)) → o ≡ None → o ≡ Some (n, p) → ⊥
+none_or_some n p o a e = cc
 
 -- a fault of a table that has a number is no want of memory
 table_fault_of : (c : NamedAlgebra) (f : TableFault) → IsTableFaultOf c f → IsFaultOf c.names c.algebra f × (f ≡ table.Memory → ⊥)
@@ -59,19 +59,22 @@ same_table_fault c f g h k =
 -- two numbered faults of a file are one
 numbered_fault : (table : Result NamedAlgebra LoadFault) (f g : LoadFault) (m n : ℕ) (p q : Place) → IsLoadFaultOf table f → IsLoadFaultOf table g →
     load_refusal f ≡ Some (m, p) → load_refusal g ≡ Some (n, q) → f ≡ g
-numbered_fault table load.Memory g m n p q h k a b = absurd (none_or_some m p a)
-numbered_fault table f load.Memory m n p q h k a b = absurd (none_or_some n q b)
+numbered_fault table load.Memory g m n p q h k a b = absurd (none_or_some m p None refl a)
+numbered_fault table f load.Memory m n p q h k a b = absurd (none_or_some n q None refl b)
 numbered_fault (Err fault) f g m n p q h k a b = h ∙ sym k
 numbered_fault (Ok c) (load.Table f) (load.Table g) m n p q h k a b = ap load.Table (same_table_fault c f g h k)
 numbered_fault (Ok c) (load.Table f) g m n p q h k a b = absurd k
 numbered_fault (Ok c) f g m n p q h k a b = absurd h
 
-some_pair : (m n : ℕ) (p q : Place) → Some (m, p) ≡ Some (n, q) → (m ≡ n) × (p ≡ q)
-some_pair m n p q e = (cc, cc)
+some_pair : (o : Option (ℕ × Place)) (m n : ℕ) (p q : Place) → o ≡ Some (m, p) → o ≡ Some (n, q) → (m ≡ n) × (p ≡ q)
+some_pair o m n p q a b =
+    let Pair : Type 0 = ℕ × Place in
+    let same : (x y : Pair) → o ≡ Some x → o ≡ Some y → x ≡ y = λ x y h k. cc in
+    let e = same (m, p) (n, q) a b in (ap (λ x. x.0) e, ap (λ x. x.1) e)
 
 pair_of : (f g : Option (ℕ × Place)) (m n : ℕ) (p q : Place) → f ≡ g → f ≡ Some (m, p) → g ≡ Some (n, q) → refuses m p ≡ refuses n q
 pair_of f g m n p q e a b =
-    let same = some_pair m n p q (sym a ∙ e ∙ b) in ap (λ k. refuses k p) same.0 ∙ ap (refuses n) same.1
+    let same = some_pair g m n p q (sym e ∙ a) b in ap (λ k. refuses k p) same.0 ∙ ap (refuses n) same.1
 
 tables_refused : (bytes : List ℕ) (m n : ℕ) (p q : Place) → RefusesTable bytes m p → RefusesTable bytes n q → refuses m p ≡ refuses n q
 tables_refused bytes m n p q h k =
@@ -79,7 +82,7 @@ tables_refused bytes m n p q h k =
 
 -- a table that is a calculus isn't refused
 calculus_or_refused : (c : NamedAlgebra) (f : LoadFault) (m : ℕ) (p : Place) → IsNamedCalculus c → IsLoadFaultOf (Ok c) f → load_refusal f ≡ Some (m, p) → ⊥
-calculus_or_refused c load.Memory m p lawful h e = none_or_some m p e
+calculus_or_refused c load.Memory m p lawful h e = none_or_some m p None refl e
 calculus_or_refused c (load.Table f) m p lawful h e = let t = table_fault_of c f h in t.1 (no-fault c.names c.algebra f lawful.lawful lawful.distinct t.0)
 calculus_or_refused c f m p lawful h e = absurd h
 
@@ -133,7 +136,7 @@ SourceNetwork-one bytes c = Then-one (BytesWithin bytes) (NetworkOf c) (BytesWit
 
 -- ---- the input of closing
 
-problem_once : (c : NamedAlgebra) (net : Network) → IsOne (λ result. result ≡ Ok (record { calculus = c; network = net }))
+problem_once : (c : NamedAlgebra) (net : Network) → IsOne (IsProblem c net)
 problem_once c net x y p q = p ∙ sym q
 
 pub CloseInput-one : (documents : Documents) (word bytes : List ℕ) → IsOne (CloseInput documents word bytes)

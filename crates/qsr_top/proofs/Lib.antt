@@ -1,3 +1,5 @@
 pub mod Parts
 pub mod InputsOnce
 pub mod OneOutput
+pub mod Answering
+pub mod FileNetworks

@@ -11,7 +11,8 @@ use Rattle.qsr_top.specs.Parts.{IsOne}
 use Rattle.qsr_top.specs.Output.{Output, OutputOf, Works, Problem, CloseInput, ClosesNetwork, IsClosureText, IsVerdict, refusal_text}
 use Rattle.qsr_top.specs.declared.statuses.Place.{Place}
 use Rattle.qsr_top.specs.declared.statuses.Status.{Status}
-use Rattle.qsr_top.specs.declared.statuses.Status.TheVariants.{Done, No, Usage, Refused, ReadFault, WriteFault, Memory, Budget, NotAccepted, TooLong}
+use Rattle.qsr_top.specs.declared.statuses.Status.TheVariants.{Done, No, Refused, Budget, NotAccepted, TooLong}
+use Rattle.qsr_top.proofs.Parts.{same_value, value_or_cause}
 use Rattle.qsr_top.proofs.InputsOnce.{CloseInput-one}
 
 -- the same text and the same status
@@ -75,12 +76,10 @@ module _ {A : Type 0} (Part : Result A Cause → Type 0) (Work : A → List ℕ 
 
   module _ (one : IsOne Part) (once : WorksOnce Work) where
     kinds_once : (t u : List ℕ) (s r : Status) → Kind t s → Kind u r → IsSame t u s r
-    kinds_once t u s r (works h) (works k) = once k.value t u s r (subst (λ a. Work a t s) (values h.value k.value (one (Ok h.value) (Ok k.value) h.input k.input)) h.work) k.work where
-      values : (a b : A) → Ok {E = Cause} a ≡ Ok b → a ≡ b
-      values a b e = cc
-    kinds_once t u s r (works h) (refused k) = let e = one (Ok h.value) (Err (refuses k.number k.place)) h.input k.refused in absurd cc
-    kinds_once t u s r (works h) (too_long p x y) = let e = one (Ok h.value) (Err is_long) h.input p in absurd cc
-    kinds_once t u s r (refused h) (works k) = let e = one (Err (refuses h.number h.place)) (Ok k.value) h.refused k.input in absurd cc
+    kinds_once t u s r (works h) (works k) = once k.value t u s r (subst (λ a. Work a t s) (same_value h.value k.value (Ok h.value) (Ok k.value) refl refl (one (Ok h.value) (Ok k.value) h.input k.input)) h.work) k.work
+    kinds_once t u s r (works h) (refused k) = absurd (value_or_cause h.value (refuses k.number k.place) _ _ refl refl (one (Ok h.value) (Err (refuses k.number k.place)) h.input k.refused))
+    kinds_once t u s r (works h) (too_long p x y) = absurd (value_or_cause h.value is_long _ _ refl refl (one (Ok h.value) (Err is_long) h.input p))
+    kinds_once t u s r (refused h) (works k) = absurd (value_or_cause k.value (refuses h.number h.place) _ _ refl refl (one (Ok k.value) (Err (refuses h.number h.place)) k.input h.refused))
     kinds_once t u s r (refused h) (refused k) =
         let e = one (Err (refuses h.number h.place)) (Err (refuses k.number k.place)) h.refused k.refused in
         let numbers : h.number ≡ k.number = cc in
@@ -90,7 +89,7 @@ module _ {A : Type 0} (Part : Result A Cause → Type 0) (Work : A → List ℕ 
           status = h.status ∙ ap (λ n. Refused n h.place) numbers ∙ ap (Refused k.number) places ∙ sym k.status;
         }
     kinds_once t u s r (refused h) (too_long p x y) = let e = one (Err (refuses h.number h.place)) (Err is_long) h.refused p in absurd cc
-    kinds_once t u s r (too_long p x y) (works k) = let e = one (Err is_long) (Ok k.value) p k.input in absurd cc
+    kinds_once t u s r (too_long p x y) (works k) = absurd (value_or_cause k.value is_long _ _ refl refl (one (Ok k.value) (Err is_long) k.input p))
     kinds_once t u s r (too_long p x y) (refused k) = let e = one (Err is_long) (Err (refuses k.number k.place)) p k.refused in absurd cc
     kinds_once t u s r (too_long p x y) (too_long q z w) = record { text = x ∙ sym z; status = y ∙ sym w }
 

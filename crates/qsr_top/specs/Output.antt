@@ -13,7 +13,7 @@ use Rattle.qsr_top.specs.Parts.{Then}
 use Rattle.qsr_top.specs.Inputs.{CalculusOf, SourceNetwork}
 use Rattle.qsr_top.specs.declared.statuses.Place.{Place}
 use Rattle.qsr_top.specs.declared.statuses.Status.{Status}
-use Rattle.qsr_top.specs.declared.statuses.Status.TheVariants.{Done, No, Usage, Refused, ReadFault, WriteFault, Memory, Budget, NotAccepted, TooLong}
+use Rattle.qsr_top.specs.declared.statuses.Status.TheVariants.{Done, No, Usage, Refused, ReadFault, WriteFault, Memory, TooLong}
 
 -- ---- texts
 
@@ -57,10 +57,14 @@ pub record Problem : Type 0 where
   pub calculus : NamedAlgebra
   pub network : Network
 
+-- the calculus and the network make the problem
+abbrev pub IsProblem : NamedAlgebra → Network → Result Problem Cause → Type 0
+IsProblem c net result = result ≡ Ok (record { calculus = c; network = net })
+
 -- the calculus of a word, and over it the network of the source
 abbrev pub CloseInput : Documents → List ℕ → List ℕ → Result Problem Cause → Type 0
 CloseInput documents word bytes =
-    Then (CalculusOf documents word) (λ c. Then (SourceNetwork bytes c) (λ net result. result ≡ Ok (record { calculus = c; network = net })))
+    Then (CalculusOf documents word) (λ c. Then (SourceNetwork bytes c) (IsProblem c))
 
 -- ---- every command
 

@@ -6,7 +6,7 @@ use Rattle.qsr_outside.specs.Writing.{AppendsPart}
 use Rattle.qsr_words.specs.Asked.{Asked, close}
 use Rattle.qsr_top.specs.Output.{Output, UsageOutput, refusal_text, usage_text}
 use Rattle.qsr_top.specs.declared.statuses.Status.{Status}
-use Rattle.qsr_top.specs.declared.statuses.Status.TheVariants.{Done, No, Usage, Refused, ReadFault, WriteFault, Memory, Budget, NotAccepted, TooLong}
+use Rattle.qsr_top.specs.declared.statuses.Status.TheVariants.{Done, No, Usage, Refused, ReadFault, WriteFault, Memory, TooLong}
 
 -- the bytes held, where told, grew by a whole text that is permitted with this status
 pub record WritesOutput (asked : Option Asked) (documents : Documents) (bytes : List ℕ) (old new : Option (List ℕ)) (status : Status) : Type 0 where

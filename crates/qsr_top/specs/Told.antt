@@ -1,9 +1,10 @@
 -- Of what a run's output is a function: only what its words ask for has to be told.
-use Rattle.std.specs.Prelude.{◌≡◌, ℕ, List, [], Bool, false, not, Option, None, Some, is_some, IfSome, if◌then◌else◌}
+use Rattle.std.specs.Prelude.{◌≡◌, ℕ, List, [], Bool, false, not, Option, None, Some, Err, is_some, IfSome, if◌then◌else◌}
 use Rattle.std.specs.FinMap as map
 use Rattle.qsr_outside.specs.Documents.{Documents, HasDocument}
 use Rattle.qsr_words.specs.Asked.{Asked, close}
-use Rattle.qsr_top.specs.Inputs.{builtin_of}
+use Rattle.qsr_top.specs.Stops.{Cause}
+use Rattle.qsr_top.specs.Inputs.{builtin_of, CalculusOf}
 
 -- the documents, where the word for a calculus names one of them; else none is asked for
 abbrev pub told_for : List ℕ → Option Documents → Option Documents
@@ -33,3 +34,9 @@ names_document (Some (close asked)) = not (is_some (builtin_of asked.calculus))
 abbrev pub AbsentStays : Option Asked → Option Documents → ℕ → ℕ → Type 0
 AbsentStays None told old new = new ≡ old
 AbsentStays (Some (close asked)) told old new = HasDocument told asked.calculus (λ _. Unit {0}) → new ≡ old
+
+-- where the calculus that the words name stops the command, the source is as it was
+abbrev pub SourceWaits : Option Asked → Option Documents → Type 0 → Type 0
+SourceWaits None told IsAsBefore = IsAsBefore
+SourceWaits (Some (close asked)) told IsAsBefore =
+    IfSome (told_for asked.calculus told) (λ documents. (cause : Cause) → CalculusOf documents asked.calculus (Err cause) → IsAsBefore)

@@ -11,7 +11,7 @@ ghost use Rattle.qsr_top.specs.Stops.{HasCause, IsTooLongStop};
 ghost use Rattle.qsr_top.specs.Inputs.{builtin_of};
 ghost use Rattle.qsr_top.specs.Output.{IsVerdict, ClosesNetwork, CloseInput, Works};
 ghost use Rattle.qsr_top.specs.SinkAfter.{IsVerdictStatus};
-ghost use Rattle.qsr_top.specs.Told.{WhereTold};
+ghost use Rattle.qsr_top.specs.Told.{WhereTold, SourceWaits};
 
 use crate::SOURCE_LIMIT;
 use crate::answers::Answer;
@@ -60,6 +60,8 @@ pub(crate) fn close_answer<F: Shelf, S: Source>(
         → F.absent_openings shelf.new ≡ F.absent_openings shelf.old }
     ensures builtin_stays { is_some (builtin_of (string_bytes request.now.calculus)) ≡ true
         → shelf.new ≡ shelf.old }
+    ensures source_waits { SourceWaits (Some (close (close_of request.now)))
+        (F.documents shelf.old) (source.new ≡ source.old) }
 {
     let calculus = calculus(alloc, shelf, request.calculus.as_str())?;
     let net = network(alloc, source, &calculus)?;

@@ -11,7 +11,7 @@ ghost use Rattle.qsr_top.specs.Output.{Output, usage_text};
 ghost use Rattle.qsr_top.specs.Ends.{MayEnd, IsAnswered, IsTooLongOrMemory, end_of_stop};
 ghost use Rattle.qsr_top.specs.Spoken.{IsSpoken};
 ghost use Rattle.qsr_top.specs.SinkAfter.{LeavesInSink, LeavesByStatus, IsWritten};
-ghost use Rattle.qsr_top.specs.Told.{WhereTold, AbsentStays, names_document};
+ghost use Rattle.qsr_top.specs.Told.{WhereTold, SourceWaits, AbsentStays, names_document};
 
 use crate::SOURCE_LIMIT;
 use crate::answers::{Answer, refused, usage};
@@ -60,7 +60,8 @@ pub fn run<F: Shelf, S: Source, W: Sink, G: Gate + Sync>(
         → IsTooLongOrMemory result }
 
     // What stays, and what is read.
-    ensures source_stays { asked_by (map string_bytes words.now) ≡ None → source.new ≡ source.old }
+    ensures source_waits { SourceWaits (asked_by (map string_bytes words.now))
+        (F.documents shelf.old) (source.new ≡ source.old) }
     ensures shelf_stays { names_document (asked_by (map string_bytes words.now)) ≡ false
         → shelf.new ≡ shelf.old }
     ensures ends { IsAnswered result → IsAtEnd (S.left source.new) }
@@ -109,7 +110,8 @@ fn answer<F: Shelf, S: Source>(
     ensures faults_are_told { (result ≡ Err ReadStop.ReadFault)
         ⊎ ((F.faults shelf.new ≡ F.faults shelf.old) × (S.faults source.new ≡ S.faults source.old)) }
 
-    ensures source_stays { asked_by (map string_bytes words.now) ≡ None → source.new ≡ source.old }
+    ensures source_waits { SourceWaits (asked_by (map string_bytes words.now))
+        (F.documents shelf.old) (source.new ≡ source.old) }
     ensures shelf_stays { names_document (asked_by (map string_bytes words.now)) ≡ false
         → shelf.new ≡ shelf.old }
     ensures documents_stay { F.documents shelf.new ≡ F.documents shelf.old }
@@ -119,10 +121,10 @@ fn answer<F: Shelf, S: Source>(
     ensures source_faults { S.faults source.old ≤ S.faults source.new }
 {
     match read(alloc, words) {
-        Ok(Some(Request::Close(request))) => {
+        Ok(Request::Close(request)) => {
             spoken(alloc, close_answer(alloc, &request, shelf, source))
         }
-        Ok(None) => usage(alloc).map_err(|_| ReadStop::Memory),
+        Ok(Request::Usage) => usage(alloc).map_err(|_| ReadStop::Memory),
         Err(Memory) => Err(ReadStop::Memory),
     }
 }

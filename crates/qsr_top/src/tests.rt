@@ -140,7 +140,8 @@ fn every_built_in_calculus_closes_a_network(rt: HostRuntime) -> Result<(), Fail>
     Ok(())
 }
 
-const RAMSEY: &[u8] = b"names ( id a b )\nidentity id\nid :: id\na :: a\nb :: b\nid : id :: ( id )\nid : a :: ( a )\nid : b :: ( b )\na : id :: ( a )\na : a :: ( id b )\na : b :: ( a b )\nb : id :: ( b )\nb : a :: ( a b )\nb : b :: ( id a )\n.\n";
+const RAMSEY: &[u8] =
+    b"names ( id a b )\nidentity id\nid :: id\na :: a\nb :: b\nid : id :: ( id )\nid : a :: ( a )\nid : b :: ( b )\na : id :: ( a )\na : a :: ( id b )\na : b :: ( a b )\nb : id :: ( b )\nb : a :: ( a b )\nb : b :: ( id a )\n.\n";
 
 #[test]
 fn a_table_file_gives_its_calculus(rt: HostRuntime) -> Result<(), Fail> {

@@ -1,4 +1,5 @@
 -- Requests as the definitions see them.
+use Rattle.std.specs.Prelude.{Option, Some, None}
 use Rattle.std.specs.String.{string_bytes}
 use Rattle.qsr_words.specs.Asked.{Asked, CloseAsked, close}
 use Rattle.qsr_words.specs.declared.close.Close.{Close}
@@ -8,5 +9,7 @@ use Rattle.qsr_words.specs.declared.reading.Request.TheVariants as request
 abbrev pub close_of : Close → CloseAsked
 close_of c = record { calculus = string_bytes c.calculus; workers = c.workers }
 
-abbrev pub asked_of : Request → Asked
-asked_of (request.Close c) = close (close_of c)
+-- what the request asks for, if it asks for something
+abbrev pub asked_of : Request → Option Asked
+asked_of (request.Close c) = Some (close (close_of c))
+asked_of request.Usage = None

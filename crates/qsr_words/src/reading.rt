@@ -1,5 +1,5 @@
 //! Which command the words name.
-ghost use Rattle.std.specs.Prelude.{◌≡◌, IfOk, map, option_map};
+ghost use Rattle.std.specs.Prelude.{◌≡◌, IfOk, map};
 ghost use Rattle.std.specs.List.{list_any};
 ghost use Rattle.std.specs.String.{string_bytes};
 ghost use Rattle.qsr_words.specs.Asked.{asked_by, is_strange};
@@ -15,22 +15,23 @@ use std::alloc::Global;
 pub enum Request {
     /// To close a network.
     Close(Close),
+    /// Nothing that there is: the usage line is the answer.
+    Usage,
 }
 
-/// What the words ask for, if they ask for something. They are the arguments without the program's name.
-pub fn read(alloc: Global, words: &[String]) -> Result<Option<Request>, Memory>
-    ensures { IfOk result (λ request.
-        option_map asked_of request ≡ asked_by (map string_bytes words.now)) }
+/// What the words ask for. They are the arguments without the program's name.
+pub fn read(alloc: Global, words: &[String]) -> Result<Request, Memory>
+    ensures { IfOk result (λ request. asked_of request ≡ asked_by (map string_bytes words.now)) }
 {
     if has_strange(words) {
-        return Ok(None);
+        return Ok(Request::Usage);
     }
     match words {
         [command, ..] if command.as_str() == "close" => match close::read(alloc, words)? {
-            Some(close) => Ok(Some(Request::Close(close))),
-            None => Ok(None),
+            Some(close) => Ok(Request::Close(close)),
+            None => Ok(Request::Usage),
         },
-        _ => Ok(None),
+        _ => Ok(Request::Usage),
     }
 }
 

@@ -32,11 +32,11 @@ fn words_of_close_are_taken(rt: HostRuntime) -> Result<(), Fail> {
             words.push(String::from_str(alloc, word)?)?;
         }
         match read(alloc, &words).map_err(|_| "memory")? {
-            Some(Request::Close(close)) => {
+            Request::Close(close) => {
                 assert_eq!(rt; close.calculus.as_str(), *calculus, "{rest:?}");
                 assert_eq!(rt; close.workers, *workers, "{rest:?}");
             }
-            None => assert_eq!(rt; "", *calculus, "{rest:?}"),
+            Request::Usage => assert_eq!(rt; "", *calculus, "{rest:?}"),
         }
     }
     Ok(())
