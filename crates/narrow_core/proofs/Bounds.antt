@@ -1,5 +1,5 @@
 -- Every allowed event keeps the bound.
-use Rattle.std.proofs.Common.{◌≡◌, ◌≢◌, ℕ, ◌<◌, List, [], ◌∷◌, ◌++◌, length, set, refl, sym, ◌∙◌, subst, arith, inl, inr, Some}
+use Rattle.std.proofs.Common.{◌≡◌, ◌≢◌, ℕ, ◌<◌, false, List, [], ◌∷◌, ◌++◌, length, set, refl, sym, ◌∙◌, subst, arith, inl, inr, Some}
 use Rattle.std.specs.Prelude.{bit_and, slice_get, slice_index, slice_set, IsTrue}
 use Rattle.std.specs.List.{All}
 use Rattle.std.proofs.lemmas.Bool.{cases_eq}
@@ -182,13 +182,13 @@ bound-split m s k left a h l some less =
 
 -- ---- a join
 
-join-facts : (m : Algebra) (s : CoreState) (xs : List ℕ) (k l : ℕ) (a b : ActorState) → k ≢ l → IsLiveAt s.actors k a → IsLiveAt s.actors l b →
-    EachLive (set (set s.actors k (joining a b)) l (spent b)) (λ x. All (IsWithinFact m s.nodes xs) x.mine) →
+join-facts : (m : Algebra) (s : CoreState) (xs : List ℕ) (k l : ℕ) (a b z : ActorState) → k ≢ l → IsLiveAt s.actors k a → IsLiveAt s.actors l b →
+    EachLive (set (set s.actors k (joining a b)) l z) (λ x. All (IsWithinFact m s.nodes xs) x.mine) →
     EachLive s.actors (λ x. All (IsWithinFact m s.nodes xs) x.mine)
-join-facts m s xs k l a b d p q all j c t =
+join-facts m s xs k l a b z d p q all j c t =
     let P : ActorState → Type 0 = λ x. All (IsWithinFact m s.nodes xs) x.mine in
     let joined : All (IsWithinFact m s.nodes xs) (a.mine ++ b.mine) = all k (joining a b) (record {
-      is_there = get-set_other (set s.actors k (joining a b)) l k (spent b) d ∙ get-set_same s.actors k (joining a b) (slice_get_within s.actors k a p.is_there);
+      is_there = get-set_other (set s.actors k (joining a b)) l k z d ∙ get-set_same s.actors k (joining a b) (slice_get_within s.actors k a p.is_there);
       is_live = p.is_live;
     }) in
     elim (cases_eq j k) [
@@ -198,15 +198,16 @@ join-facts m s xs k l a b d p q all j c t =
         | inl same ↦ (let e : b ≡ c = same_actor s.actors l b c q.is_there (subst (λ (i : ℕ). slice_get s.actors i ≡ Some c) same t.is_there) in
             subst P e (All-right (IsWithinFact m s.nodes xs) a.mine b.mine joined))
         | inr other ↦ all j c (record {
-          is_there = get-set_other (set s.actors k (joining a b)) l j (spent b) other ∙ get-set_other s.actors k j (joining a b) differ ∙ t.is_there;
+          is_there = get-set_other (set s.actors k (joining a b)) l j z other ∙ get-set_other s.actors k j (joining a b) differ ∙ t.is_there;
           is_live = t.is_live;
         })
       ]
     ]
 
-pub bound-join : (m : Algebra) (s : CoreState) (k l : ℕ) (a b : ActorState) → Bound m s → k ≢ l → IsLiveAt s.actors k a → IsLiveAt s.actors l b →
-    Bound m (record s { actors = set (set s.actors k (joining a b)) l (spent b) })
-bound-join m s k l a b h d p q =
+-- whatever is left of the second actor, if it isn't live
+pub bound-join : (m : Algebra) (s : CoreState) (k l : ℕ) (a b z : ActorState) → Bound m s → k ≢ l → IsLiveAt s.actors k a → IsLiveAt s.actors l b → z.is_live ≡ false →
+    Bound m (record s { actors = set (set s.actors k (joining a b)) l z })
+bound-join m s k l a b z h d p q dead =
     let n = s.nodes in
     let seen = met_words a.seen b.seen in
     let actors = set s.actors k (joining a b) in
@@ -219,11 +220,11 @@ bound-join m s k l a b h d p q =
         network = cand.network;
         closed = cand.closed;
         opening = cand.opening;
-        facts = join-facts m s xs k l a b d p q cand.facts;
+        facts = join-facts m s xs k l a b z d p q cand.facts;
       });
       words_within = record {
         opening = h.words_within.opening;
-        actors = live-set actors l (spent b) (IsWithinActor m n s.words) (λ t. absurd (cc))
+        actors = live-set actors l z (IsWithinActor m n s.words) (λ t. absurd (cc))
             (λ j x e t. live-set s.actors k (joining a b) (IsWithinActor m n s.words)
             (λ u. record {
               seen = met-keeps s.words a.seen b.seen a_words.seen b_words.seen;
@@ -231,7 +232,7 @@ bound-join m s k l a b h d p q =
             })
             (λ i y f u. h.words_within.actors i y u) j x t);
       };
-      seen_within = live-set actors l (spent b) (HasSeenWithin m n s.opening) (λ t. absurd (cc))
+      seen_within = live-set actors l z (HasSeenWithin m n s.opening) (λ t. absurd (cc))
           (λ j x e t. live-set s.actors k (joining a b) (HasSeenWithin m n s.opening)
           (λ u. record {
             opening = Refines-trans seen a.seen s.opening (met-within_l a.seen b.seen) a_seen.opening;
@@ -240,7 +241,7 @@ bound-join m s k l a b h d p q =
                 (facts-mono m n seen b.seen b.mine (met-within_r a.seen b.seen) b_seen.facts);
           })
           (λ i y f u. h.seen_within i y u) j x t);
-      weights = weights-join s.opening_weight s.actors k l a b d p q h.weights;
+      weights = weights-join s.opening_weight s.actors k l a b z d p q dead h.weights;
     }
 
 -- ---- every event
@@ -254,7 +255,7 @@ bound-step m (Assert k fact) s t calculus full core may step h =
     let a = step.actor in
     let e = edge_between s.nodes fact.i fact.j in
     subst (Bound m) (sym step.after) (bound-move m s step.words k a (seeing e (slice_index step.words e) (stating fact a)) h (live_here s k a may.live step.is_there)
-    (move-assert m s.nodes s.words step.words fact a calculus (AreSets-network m s.nodes s.full s.words full core.words) (core.actors k a step.is_there).seen.length_is
+    (move-assert m s.nodes s.words step.words fact a calculus (AreSets-network m s.nodes s.full s.words full core.words) (core.actors k a (live_here s k a may.live step.is_there)).seen.length_is
     (full-fact m s.nodes s.full fact full may.proper) step.words_is))
 bound-step m (Read k e) s t calculus full core may step h =
     let a = step.actor in
@@ -272,8 +273,8 @@ bound-step m (Split k left) s t calculus full core may step h =
     let less : left < a.weight = subst (λ (x : ActorState). left < x.weight) same may.live.more in
     subst (Bound m) (sym step.after) (bound-split m s k left a h live may.some less)
 bound-step m (Join k l) s t calculus full core may step h =
-    subst (Bound m) (sym step.after) (bound-join m s k l step.actor step.other h may.differ
-    (live_here s k step.actor may.live step.is_there) (live_here s l step.other may.other_live step.other_there))
+    subst (Bound m) (sym step.after) (bound-join m s k l step.actor step.other (spent step.other) h may.differ
+    (live_here s k step.actor may.live step.is_there) (live_here s l step.other may.other_live step.other_there) refl)
 
 -- the same for an event that is known to be another
 pub bound-step_at : (m : Algebra) (e d : Event) (s t : CoreState) → e ≡ d → IsCalculus m → s.full ≡ full_of m → IsCore s → IsAllowed s e → IsStep m d s t → Bound m s → Bound m t

@@ -1,5 +1,5 @@
 -- What actors have seen: the set of a pair after one edge or all edges are met, and facts under smaller words.
-use Rattle.std.proofs.Common.{◌≡◌, ◌≢◌, ℕ, zero, suc, ◌<◌, List, [], ◌∷◌, length, refl, ◌∙◌, ap, subst, arith, inl, inr}
+use Rattle.std.proofs.Common.{◌≡◌, ℕ, zero, suc, ◌<◌, List, [], ◌∷◌, length, refl, ◌∙◌, ap, subst, arith, inl, inr}
 use Rattle.std.specs.Prelude.{bit_and, slice_index, slice_set}
 use Rattle.std.specs.List.{All}
 use Rattle.std.proofs.lemmas.Bool.{cases_lt}
@@ -11,9 +11,10 @@ use Rattle.calculus_table.specs.Composition.{full_of}
 use Rattle.calculus_table.proofs.Sets.{IsWithin-refl, IsWithin-trans, IsWithin-meet, IsWithin-meet_l, IsWithin-meet_r, IsWithin-empty}
 use Rattle.calculus_table.proofs.Compositions.{converse-mono}
 use Rattle.network_words.specs.declared.fact.Fact.{Fact}
-use Rattle.network_words.specs.Edge.{edge_count, IsProperPair, edge_between}
+use Rattle.network_words.specs.Edge.{edge_between}
 use Rattle.network_words.specs.Network.{IsNetwork, Refines, relation_between}
-use Rattle.network_words.proofs.Edges.{edge_at-lt, edge_between-straight, edge_between-turned}
+use Rattle.network_words.proofs.Edges.{edge_between-straight, edge_between-turned}
+pub use Rattle.network_words.proofs.Pairs.{edge_between-lt}
 use Rattle.network_words.proofs.Networks.{set-cases, relation_between-mono, relation_between-straight, relation_between-turned}
 use Rattle.narrow_core.specs.Actor.{met_words}
 use Rattle.narrow_core.specs.Machine.{AreSets}
@@ -25,14 +26,6 @@ pub facts-mono : (m : Algebra) (n : ℕ) (xs ys : List ℕ) (facts : List Fact) 
 facts-mono m n xs ys facts w = All-weaker (IsWithinFact m n ys) (IsWithinFact m n xs) (λ f h. IsWithin-trans _ _ _ (relation_between-mono m n xs ys f.i f.j w) h) facts
 
 -- ---- the edge between two nodes
-
-pub edge_between-lt : (n i j : ℕ) → IsProperPair n i j → edge_between n i j < edge_count n
-edge_between-lt n i j p = elim (cases_lt i j) [
-  | inl o ↦ rw (edge_between-straight n i j o) (edge_at-lt n i j o p.second_below)
-  | inr o ↦ (let d : i ≢ j = p.differ in
-      let o' : j < i = omega arith in
-      rw (edge_between-turned n i j o) (edge_at-lt n j i o' p.first_below))
-]
 
 -- where the words of the edge between two nodes are within one another, so are the sets of the pair
 pub relation_between-edge : (m : Algebra) (n : ℕ) (xs ys : List ℕ) (i j : ℕ) →

@@ -3,12 +3,14 @@ use Rattle.std.specs.Prelude.{◌≡◌, ℕ, List}
 use Rattle.std.specs.List.{All}
 use Rattle.calculus_table.specs.Rel.{IsWithin}
 use Rattle.calculus_table.specs.Algebra.{Algebra}
+use Rattle.calculus_table.specs.Composition.{full_of}
+use Rattle.calculus_table.specs.Calculus.{IsCalculus}
 use Rattle.network_words.specs.declared.fact.Fact.{Fact}
 use Rattle.network_words.specs.Network.{IsNetwork, Refines, relation_between}
 use Rattle.network_words.specs.Facts.{narrowed_by}
 use Rattle.network_words.specs.Closure.{IsClosed, IsClosure}
 use Rattle.narrow_core.specs.Actor.{ActorState, IsLiveAt, EachLive}
-use Rattle.narrow_core.specs.Machine.{CoreState, AreWeighed}
+use Rattle.narrow_core.specs.Machine.{CoreState, AreWeighed, IsCore}
 
 -- the set of the fact's pair is within the fact's set
 abbrev pub IsWithinFact : Algebra → ℕ → List ℕ → Fact → Type 0
@@ -40,12 +42,21 @@ pub record AreWordsWithin (m : Algebra) (s : CoreState) : Type 0 where
   pub opening : Refines s.words s.opening
   pub actors : EachLive s.actors (IsWithinActor m s.nodes s.words)
 
+-- no closed network is lost that is within the opening words and every fact of every live actor, the words are within all
+-- that live actors have seen and stated, what each has seen is within the opening words and its own facts, and the weights of
+-- the live actors are those of the opening
 pub record Bound (m : Algebra) (s : CoreState) : Type 0 where
-  -- no closed network within what was stated is lost
   pub nothing_lost : (xs : List ℕ) → IsCandidate m s xs → Refines xs s.words
   pub words_within : AreWordsWithin m s
   pub seen_within : EachLive s.actors (HasSeenWithin m s.nodes s.opening)
   pub weights : AreWeighed s.opening_weight s.actors
+
+-- a machine of the calculus of which the bound holds: what every step keeps, and what a rule over shared words asks
+pub record Holds (m : Algebra) (s : CoreState) : Type 0 where
+  pub calculus : IsCalculus m
+  pub full : s.full ≡ full_of m
+  pub core : IsCore s
+  pub bound : Bound m s
 
 -- ---- an actor alone
 

@@ -6,9 +6,10 @@ use Rattle.calculus_table.specs.Calculus.{IsCalculus}
 use Rattle.network_words.specs.Network.{Network, IsNetwork}
 use Rattle.narrow_core.specs.declared.event.Event.{Event}
 use Rattle.narrow_core.specs.Actor.{ActorState, IsLiveAt}
-use Rattle.narrow_core.specs.Machine.{CoreState, IsCore, opened}
+use Rattle.narrow_core.specs.Machine.{CoreState, opened}
+use Rattle.narrow_core.specs.Event.{IsAllowed, IsStep}
 use Rattle.narrow_core.specs.Run.{IsRun}
-use Rattle.narrow_core.specs.Bound.{Bound, IsAlone}
+use Rattle.narrow_core.specs.Bound.{Bound, Holds, IsAlone}
 
 -- events of a calculus, however they interleave, lead from the opening of the machine over a network to the state s
 pub record IsSchedule (m : Algebra) (net : Network) (weight : ℕ) (events : List Event) (s : CoreState) : Type 0 where
@@ -33,4 +34,9 @@ TheWholeWeightIsAlone =
 abbrev pub TheBoundMakesAlone : Type 0
 TheBoundMakesAlone =
     (m : Algebra) (s : CoreState) (k : ℕ) (a : ActorState) →
-    IsCalculus m → s.full ≡ full_of m → IsCore s → Bound m s → IsLiveAt s.actors k a → a.weight ≡ s.opening_weight → IsAlone m s k a
+    Holds m s → IsLiveAt s.actors k a → a.weight ≡ s.opening_weight → IsAlone m s k a
+
+-- every allowed event keeps the bound
+abbrev pub EveryStepKeepsTheBound : Type 0
+EveryStepKeepsTheBound =
+    (m : Algebra) (event : Event) (s t : CoreState) → Holds m s → IsAllowed s event → IsStep m event s t → Holds m t

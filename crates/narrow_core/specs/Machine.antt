@@ -1,5 +1,5 @@
 -- The machine: words that several actors narrow.
-use Rattle.std.specs.Prelude.{◌≡◌, ℕ, ◌<◌, List, [], ◌∷◌, length, slice_get, slice_index, Some}
+use Rattle.std.specs.Prelude.{◌≡◌, ℕ, ◌<◌, List, [], ◌∷◌, length, slice_index}
 use Rattle.std.specs.List.{All, sum_by}
 use Rattle.calculus_table.specs.Rel.{IsWithin}
 use Rattle.network_words.specs.declared.fact.Fact.{Fact}
@@ -52,7 +52,7 @@ pub record AreWeighed (opening_weight : ℕ) (actors : List ActorState) : Type 0
 pub record IsCore (s : CoreState) : Type 0 where
   pub opening : AreSets s.nodes s.full s.opening
   pub words : AreSets s.nodes s.full s.words
-  pub actors : (k : ℕ) (a : ActorState) → slice_get s.actors k ≡ Some a → IsProperActor s.nodes s.full a
+  pub actors : EachLive s.actors (IsProperActor s.nodes s.full)
   pub weights : AreWeighed s.opening_weight s.actors
 
 -- what no event changes: the nodes, the set of all base relations, and what the machine was opened with

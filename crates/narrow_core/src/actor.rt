@@ -1,6 +1,6 @@
 use crate::lists::{chained, met};
-use calculus_table::{Compose, Memory, Rel};
-use network_words::{Fact, Net};
+use calculus_table::{Memory, Rel};
+use network_words::Fact;
 use std::alloc::Global;
 use std::marker::Model;
 
@@ -18,15 +18,16 @@ impl Model for Actor {
 
     ghost Value = { ActorState };
 
-    ghost view = { λ a. record { is_live = a.is_live; weight = a.weight; mine = a.mine.items; seen = a.seen.items } };
+    ghost view = { λ a. record {
+      is_live = a.is_live;
+      weight = a.weight;
+      mine = a.mine.items;
+      seen = a.seen.items;
+    } };
 }
 
 impl Actor {
-    ghost use Rattle.std.specs.Prelude.{◌≡◌, ◌+◌, ◌≤◌, ◌<◌, ◌^◌, length, slice_index, IfOk, OnErr, OnOk};
-    ghost use Rattle.calculus_table.specs.Rel.{IsWithin};
-    ghost use Rattle.calculus_table.specs.Composition.{full_of};
-    ghost use Rattle.network_words.specs.Edge.{IsProperPair};
-    ghost use Rattle.network_words.specs.Network.{IsNetwork, relation_between};
+    ghost use Rattle.std.specs.Prelude.{◌≡◌, ◌+◌, ◌≤◌, ◌<◌, ◌^◌, length, IfOk, OnErr, OnOk};
     ghost use Rattle.narrow_core.specs.Actor.{ActorState, fresh, seeing, stating, giving, joining, spent};
 
     /// A live actor that has stated nothing.
@@ -42,6 +43,7 @@ impl Actor {
         })
     }
 
+    /// Whether the actor is live, and not spent.
     pub(crate) fn is_live(&self) -> bool
         ensures { result ≡ self.now.is_live }
     {
@@ -69,28 +71,7 @@ impl Actor {
         &self.seen
     }
 
-    fn sight(&self, edge: u32) -> Rel
-        requires { edge < length self.now.seen }
-        ensures { result ≡ slice_index self.now.seen edge }
-    {
-        Rel::of(self.seen[edge as usize])
-    }
-
-    /// What the actor has seen of the pair `(i, j)`, turned by the converse where `i > j`.
-    pub(crate) fn seen_between<C: Compose>(&self, c: &C, net: &Net, i: u32, j: u32) -> Rel
-        requires proper { IsProperPair net.now.nodes i j }
-        requires within { IsNetwork (C.algebra c.now) net.now.nodes self.now.seen }
-        ensures value { result ≡ relation_between (C.algebra c.now) net.now.nodes self.now.seen i j }
-        ensures within { IsWithin result (full_of (C.algebra c.now)) }
-    {
-        if i < j {
-            self.sight(net.edge(i, j))
-        } else {
-            c.converse(self.sight(net.edge(j, i)))
-        }
-    }
-
-    /// Meets what the actor has seen of an edge with the set that stands there.
+    /// Narrows what the actor has seen of an edge to the set that the edge has.
     pub(crate) fn see(&mut self, edge: u32, rel: Rel)
         requires { edge < length self.old.seen }
         ensures { self.new ≡ seeing edge rel self.old }

@@ -1,7 +1,16 @@
+//! The machine: one state, which actors change event by event.
+//!
+//! An actor narrows an edge by the composition of what it has seen itself, which may be older than the
+//! words. That loses no closed network: such a network is within all that any actor has seen, and
+//! composition is monotone, so it is within every composition. What an actor has seen is never less
+//! than the words, since words only become less. So between the events the words contain the closure of
+//! what was stated and are within all that was stated and seen, and when one actor has all the weight,
+//! it is alone: the closure of the words is that of the opening met with its facts. An event takes one
+//! composition at most, and a list of events as many steps as it has events.
 use crate::actor::Actor;
 use crate::event::Event;
 use calculus_table::{Compose, Memory, Rel, lawful};
-use network_words::{Fact, Net};
+use network_words::{Fact, Net, edge_between, relation_between};
 use std::alloc::Global;
 use std::marker::Model;
 
@@ -47,14 +56,15 @@ impl Core {
     ghost use Rattle.calculus_table.specs.Rel.{IsWithin};
     ghost use Rattle.calculus_table.specs.Algebra.{Algebra};
     ghost use Rattle.calculus_table.specs.Composition.{full_of};
-    ghost use Rattle.network_words.specs.Edge.{edge_count, IsProperPair, edge_between};
+    ghost use Rattle.network_words.specs.Edge.{IsProperPair};
     ghost use Rattle.narrow_core.specs.Actor.{IsLiveAt};
     ghost use Rattle.narrow_core.specs.Machine.{CoreState, IsCore, IsProperFact, SameOpening, opened};
     ghost use Rattle.narrow_core.specs.Event.{IsAllowed, IsStep, HasLive, HasMore, MayAssert, MayRead, MayNarrow, MaySplit, MayJoin, Asserts, Reads, Narrows, Splits, Joins};
     ghost use Rattle.narrow_core.specs.Run.{IsRun, StopsAt, TakesMemory, WantsMemory};
     ghost use Rattle.narrow_core.specs.Bound.{Bound};
 
-    /// The machine over `net`, with one live actor, number 0, that has the whole weight and has seen the network.
+    /// The machine over `net`, with one live actor, number 0, that has the whole weight and has seen the
+    /// network.
     pub fn new(alloc: Global, net: &Net, weight: u32) -> Result<Core, Memory>
         requires some { 0 < weight }
         requires within { (e : ℕ) → IsWithin (slice_index net.now.words e) net.now.full }
@@ -103,8 +113,9 @@ impl Core {
         if found.is_live() { Some(found) } else { None }
     }
 
-    /// Whether the event is allowed: its actor is live, its nodes differ and are there or its edge is, a fact's set is of base
-    /// relations of the calculus, a split leaves some weight to each side, and a join names two live actors that differ.
+    /// Whether the event is allowed: its actor is live, its nodes differ and are there or its edge is, a
+    /// fact's set is of base relations of the calculus, a split leaves some weight to each side, and a
+    /// join names two live actors that differ.
     pub fn may(&self, event: &Event) -> bool
         ensures { IsTrue result ↔ IsAllowed self.now event.now }
     {
@@ -121,7 +132,8 @@ impl Core {
         }
     }
 
-    /// Makes one event. Where memory is wanting the machine is as before. Reading and narrowing take none.
+    /// Makes one event. If it runs out of memory the machine is as before. Reading and narrowing take
+    /// none.
     pub fn step<C: Compose>(&mut self, c: &C, event: &Event) -> Result<(), Memory>
         requires allowed { IsAllowed self.old event.now }
         requires full { self.old.full ≡ full_of (C.algebra c.now) }
@@ -132,6 +144,7 @@ impl Core {
         ensures same { SameOpening self.old self.new }
     {
         lawful(c);
+        // The proof needs what every machine keeps, which a use of its fields brings.
         let _net = &self.net;
         match *event {
             Event::Assert { actor, fact } => self.assert(c, actor, fact)?,
@@ -143,8 +156,8 @@ impl Core {
         Ok(())
     }
 
-    /// Makes the events in turn while the next one is allowed, and tells how many it made. Where memory is wanting the machine
-    /// is where the first of them left it.
+    /// Makes the events in turn while the next one is allowed, and returns how many it made. If it runs
+    /// out of memory the machine is where the first of them left it.
     pub fn run<C: Compose>(&mut self, c: &C, events: &[Event]) -> Result<u32, Memory>
         requires full { self.old.full ≡ full_of (C.algebra c.now) }
         requires few { length events.now < 2 ^ 32 }
@@ -163,6 +176,7 @@ impl Core {
         Ok(events.len() as u32)
     }
 
+    /// Whether there is a live actor of this number.
     fn is_live(&self, actor: u32) -> bool
         ensures { IsTrue result ↔ HasLive self.now actor }
     {
@@ -186,25 +200,14 @@ impl Core {
         i < self.net.nodes() && j < self.net.nodes() && i != j
     }
 
-    /// The number of the edge between two nodes, in whichever order.
-    fn edge_between(&self, i: u32, j: u32) -> u32
-        requires { IsProperPair self.now.nodes i j }
-        ensures value { result ≡ edge_between self.now.nodes i j }
-        ensures below { result < edge_count self.now.nodes }
-    {
-        if i < j {
-            self.net.edge(i, j)
-        } else {
-            self.net.edge(j, i)
-        }
-    }
-
+    /// Whether the fact is of two nodes that differ, and its set of base relations of the calculus.
     fn is_proper(&self, fact: Fact) -> bool
         ensures { IsTrue result ↔ IsProperFact self.now.nodes self.now.full fact }
     {
         self.is_pair(fact.i, fact.j) && fact.rel.within(self.net.full())
     }
 
+    /// States a fact and narrows its edge to the fact's set.
     fn assert<C: Compose>(&mut self, c: &C, actor: u32, fact: Fact) -> Result<(), Memory>
         requires allowed { MayAssert self.old actor fact }
         requires full { self.old.full ≡ full_of (C.algebra c.now) }
@@ -212,7 +215,7 @@ impl Core {
         ensures memory { OnErr result (self.new ≡ self.old) }
     {
         let Fact { i, j, rel } = fact;
-        let edge = self.edge_between(i, j);
+        let edge = edge_between(self.net.nodes(), i, j);
         let actor = &mut self.actors[actor as usize];
         actor.state(fact)?;
         self.net.narrow(c, i, j, rel);
@@ -220,6 +223,7 @@ impl Core {
         Ok(())
     }
 
+    /// Sees the word of an edge.
     fn read(&mut self, actor: u32, edge: u32)
         requires { MayRead self.old actor edge }
         ensures { Reads actor edge self.old self.new }
@@ -227,19 +231,22 @@ impl Core {
         self.actors[actor as usize].see(edge, self.net.word(edge));
     }
 
+    /// Narrows the edge from `i` to `k` along `j`.
     fn narrow<C: Compose>(&mut self, c: &C, actor: u32, i: u32, j: u32, k: u32)
         requires allowed { MayNarrow self.old actor i j k }
         requires full { self.old.full ≡ full_of (C.algebra c.now) }
         ensures { Narrows (C.algebra c.now) actor i j k self.old self.new }
     {
-        let edge = self.edge_between(i, k);
+        let nodes = self.net.nodes();
+        let edge = edge_between(nodes, i, k);
         let actor = &mut self.actors[actor as usize];
-        let first = actor.seen_between(c, &self.net, i, j);
-        let second = actor.seen_between(c, &self.net, j, k);
+        let first = relation_between(c, nodes, actor.seen(), i, j);
+        let second = relation_between(c, nodes, actor.seen(), j, k);
         self.net.narrow(c, i, k, c.compose(first, second));
         actor.see(edge, self.net.word(edge));
     }
 
+    /// Makes a new actor with the weight `left`.
     fn split(&mut self, actor: u32, left: u32) -> Result<(), Memory>
         requires { MaySplit self.old actor left }
         ensures split { OnOk result (Splits actor left self.old self.new) }
@@ -252,6 +259,7 @@ impl Core {
         Ok(())
     }
 
+    /// Makes one actor of two.
     fn join(&mut self, actor: u32, other: u32) -> Result<(), Memory>
         requires { MayJoin self.old actor other }
         ensures joined { OnOk result (Joins actor other self.old self.new) }

@@ -1,21 +1,52 @@
-ghost use Rattle.std.specs.Prelude.{◌≡◌, ◌<◌, IfOk};
+//! Events over the calculus of points on a line, which are before, at or after one another.
+ghost use Rattle.std.specs.Prelude.{◌≡◌, ◌<◌, IfOk, length};
 ghost use Rattle.calculus_table.specs.Composition.{full_of};
 
 use super::*;
-use calculus_builtin::rcc8;
-use calculus_table::{Calculus, Compose, Memory, Rel};
+use calculus_table::{Calculus, Compose, Memory, Rel, TableFault};
 use network_words::{Fact, Net};
 use std::alloc::Global;
 use std::process::Abort;
 use std::test::Fail;
 
-const TPP: u64 = 1 << 3;
+const BEFORE: u64 = 1;
 
-const NTPP: u64 = 1 << 4;
+const SAME: u64 = 2;
 
-const TPPI: u64 = 1 << 5;
+const AFTER: u64 = 4;
 
-const FULL: u64 = (1 << 8) - 1;
+const ANY: u64 = BEFORE | SAME | AFTER;
+
+const CONVERSES: [u32; 3] = [2, 1, 0];
+
+const COMPOSITIONS: [u64; 9] = [BEFORE, BEFORE, ANY, BEFORE, SAME, AFTER, ANY, AFTER, AFTER];
+
+fn owned(alloc: Global, name: &str) -> Result<String, TableFault> {
+    String::from_str(alloc, name).map_err(|_| TableFault::Memory)
+}
+
+fn three_names(alloc: Global) -> Result<Vec<String>, TableFault>
+    ensures { IfOk result (λ owned. length owned.items ≡ 3) }
+{
+    let owned = [owned(alloc, "<")?, owned(alloc, "=")?, owned(alloc, ">")?];
+    Vec::from_array(alloc, owned).map_err(|_| TableFault::Memory)
+}
+
+fn sets_of(alloc: Global, words: &[u64]) -> Result<Vec<Rel>, TableFault>
+    ensures { IfOk result (λ sets. sets.items ≡ words.now) }
+{
+    words
+        .iter()
+        .map(|word| Rel::of(*word))
+        .collect(alloc)
+        .map_err(|_| TableFault::Memory)
+}
+
+fn point(alloc: Global) -> Result<Calculus, TableFault> {
+    let names = three_names(alloc)?;
+    let table = sets_of(alloc, &COMPOSITIONS)?;
+    Calculus::new(alloc, names, 1, &CONVERSES, &table)
+}
 
 /// The machine over three nodes of which nothing is known.
 fn open(alloc: Global, c: &Calculus, weight: u32) -> Result<Core, Memory>
@@ -54,70 +85,70 @@ fn join(actor: u32, other: u32) -> Event {
 
 #[test]
 fn narrowing_composes_along_a_third_node(rt: HostRuntime) -> Result<(), Fail> {
-    let c = rcc8(rt.alloc())?;
+    let c = point(rt.alloc())?;
     let mut core = open(rt.alloc(), &c, 1)?;
     let events = [
-        asserted(0, 0, 1, TPP),
-        asserted(0, 1, 2, NTPP),
+        asserted(0, 0, 1, BEFORE),
+        asserted(0, 1, 2, SAME),
         narrowed(0, 0, 1, 2),
     ];
     assert_eq!(rt; core.run(&c, &events)?, 3);
-    assert_eq!(rt; core.words(), [TPP, NTPP, NTPP].as_slice());
+    assert_eq!(rt; core.words(), [BEFORE, BEFORE, SAME].as_slice());
     Ok(())
 }
 
 #[test]
 fn pairs_the_other_way_round_are_turned(rt: HostRuntime) -> Result<(), Fail> {
-    let c = rcc8(rt.alloc())?;
+    let c = point(rt.alloc())?;
     let mut core = open(rt.alloc(), &c, 1)?;
     let events = [
-        asserted(0, 1, 0, TPPI),
-        asserted(0, 1, 2, NTPP),
+        asserted(0, 1, 0, AFTER),
+        asserted(0, 1, 2, SAME),
         narrowed(0, 2, 1, 0),
     ];
     assert_eq!(rt; core.run(&c, &events)?, 3);
-    assert_eq!(rt; core.words(), [TPP, NTPP, NTPP].as_slice());
+    assert_eq!(rt; core.words(), [BEFORE, BEFORE, SAME].as_slice());
     Ok(())
 }
 
 #[test]
 fn an_actor_narrows_by_what_it_has_seen(rt: HostRuntime) -> Result<(), Fail> {
-    let c = rcc8(rt.alloc())?;
+    let c = point(rt.alloc())?;
     let mut core = open(rt.alloc(), &c, 2)?;
     let stated = [
         split(0, 1),
-        asserted(0, 0, 1, TPP),
-        asserted(0, 1, 2, NTPP),
+        asserted(0, 0, 1, BEFORE),
+        asserted(0, 1, 2, SAME),
         narrowed(1, 0, 1, 2),
     ];
     assert_eq!(rt; core.run(&c, &stated)?, 4);
-    assert_eq!(rt; core.words(), [TPP, FULL, NTPP].as_slice());
+    assert_eq!(rt; core.words(), [BEFORE, ANY, SAME].as_slice());
     Ok(())
 }
 
 #[test]
 fn an_actor_narrows_further_after_it_has_read(rt: HostRuntime) -> Result<(), Fail> {
-    let c = rcc8(rt.alloc())?;
+    let c = point(rt.alloc())?;
     let mut core = open(rt.alloc(), &c, 2)?;
     let events = [
         split(0, 1),
-        asserted(0, 0, 1, TPP),
-        asserted(0, 1, 2, NTPP),
+        asserted(0, 0, 1, BEFORE),
+        asserted(0, 1, 2, SAME),
         read(1, 0),
         read(1, 2),
         narrowed(1, 0, 1, 2),
     ];
     assert_eq!(rt; core.run(&c, &events)?, 6);
-    assert_eq!(rt; core.words(), [TPP, NTPP, NTPP].as_slice());
+    assert_eq!(rt; core.words(), [BEFORE, BEFORE, SAME].as_slice());
     let reader = core.actor(1).expect(&rt, "actor 1 is live");
-    assert_eq!(rt; reader.seen(), [TPP, NTPP, NTPP].as_slice());
+    assert_eq!(rt; reader.seen(), [BEFORE, BEFORE, SAME].as_slice());
     assert_eq!(rt; reader.facts().len(), 0);
     Ok(())
 }
 
 #[test]
 fn no_actor_joins_itself(rt: HostRuntime) -> Result<(), Fail> {
-    let c = rcc8(rt.alloc())?;
+    let c = point(rt.alloc())?;
     let mut core = open(rt.alloc(), &c, 1)?;
     assert_eq!(rt; core.run(&c, &[join(0, 0)])?, 0);
     Ok(())
@@ -125,16 +156,21 @@ fn no_actor_joins_itself(rt: HostRuntime) -> Result<(), Fail> {
 
 #[test]
 fn a_joined_actor_has_both_weights_and_all_facts(rt: HostRuntime) -> Result<(), Fail> {
-    let c = rcc8(rt.alloc())?;
+    let c = point(rt.alloc())?;
     let mut core = open(rt.alloc(), &c, 2)?;
-    let events = [split(0, 1), asserted(1, 0, 1, TPP), join(0, 1), read(1, 0)];
+    let events = [
+        split(0, 1),
+        asserted(1, 0, 1, BEFORE),
+        join(0, 1),
+        read(1, 0),
+    ];
     assert_eq!(rt; core.run(&c, &events)?, 3);
     assert!(rt; core.actor(1).is_none());
     let whole = core.actor(0).expect(&rt, "actor 0 is live");
     assert_eq!(rt; whole.weight(), 2);
-    let rel = Rel::of(TPP);
+    let rel = Rel::of(BEFORE);
     assert_eq!(rt; whole.facts(), [Fact { i: 0, j: 1, rel }].as_slice());
-    assert_eq!(rt; whole.seen(), [TPP, FULL, FULL].as_slice());
+    assert_eq!(rt; whole.seen(), [BEFORE, ANY, ANY].as_slice());
     Ok(())
 }
 
@@ -144,7 +180,7 @@ fn assert_allowed(
     alloc: Global,
     rows: &[(&str, Event, bool)],
 ) -> Result<(), Fail> {
-    let c = rcc8(alloc)?;
+    let c = point(alloc)?;
     let mut core = open(alloc, &c, 4)?;
     let opening = [split(0, 2), split(0, 1), join(0, 2)];
     assert_eq!(rt; core.run(&c, &opening)?, 3);
@@ -157,15 +193,15 @@ fn assert_allowed(
 #[test]
 fn only_live_actors_assert_proper_facts(rt: HostRuntime) -> Result<(), Fail> {
     let rows = [
-        ("a live actor", asserted(1, 0, 2, TPP), true),
-        ("the other way round", asserted(0, 2, 0, FULL), true),
-        ("a spent actor", asserted(2, 0, 1, TPP), false),
-        ("an absent actor", asserted(3, 0, 1, TPP), false),
-        ("one node twice", asserted(0, 1, 1, TPP), false),
-        ("an absent node", asserted(0, 0, 3, TPP), false),
+        ("a live actor", asserted(1, 0, 2, BEFORE), true),
+        ("the other way round", asserted(0, 2, 0, ANY), true),
+        ("a spent actor", asserted(2, 0, 1, BEFORE), false),
+        ("an absent actor", asserted(3, 0, 1, BEFORE), false),
+        ("one node twice", asserted(0, 1, 1, BEFORE), false),
+        ("an absent node", asserted(0, 0, 3, BEFORE), false),
         (
             "a set beyond the calculus",
-            asserted(0, 0, 1, 1 << 8),
+            asserted(0, 0, 1, 1 << 3),
             false,
         ),
     ];
@@ -221,13 +257,13 @@ fn only_two_live_actors_that_differ_join(rt: HostRuntime) -> Result<(), Fail> {
 
 #[test]
 fn one_step_makes_an_event(rt: HostRuntime) -> Result<(), Fail> {
-    let c = rcc8(rt.alloc())?;
+    let c = point(rt.alloc())?;
     let mut core = open(rt.alloc(), &c, 1)?;
-    let event = asserted(0, 0, 2, NTPP);
+    let event = asserted(0, 0, 2, SAME);
     assert!(rt; core.may(&event));
     core.step(&c, &event)?;
-    assert_eq!(rt; core.words(), [FULL, NTPP, FULL].as_slice());
-    assert_eq!(rt; core.opening(), [FULL, FULL, FULL].as_slice());
+    assert_eq!(rt; core.words(), [ANY, SAME, ANY].as_slice());
+    assert_eq!(rt; core.opening(), [ANY, ANY, ANY].as_slice());
     assert_eq!(rt; core.opening_weight(), 1);
     Ok(())
 }

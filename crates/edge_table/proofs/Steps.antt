@@ -1,0 +1,279 @@
+-- Each step on the table is an event of its machine, so it keeps the rule.
+use Rattle.std.proofs.Common.{◌≡◌, ◌≢◌, ℕ, zero, suc, ◌<◌, ◌≤◌, false, true, cond, List, [], ◌∷◌, ◌++◌, length, take, set, get_or, refl, sym, ◌∙◌, ap, subst, arith, Some, inl, inr, sum}
+use Rattle.std.specs.Prelude.{bit_and, slice_get, slice_index, slice_set, nat_lt, IsTrue}
+use Rattle.std.specs.List.{All, sum_by}
+use Rattle.std.proofs.lemmas.Bool.{cases_lt, lt-ltb, le-ltb}
+use Rattle.std.proofs.lemmas.List.{length-set, get_or-set_same, set-get_or}
+use mathlib.Core.Option.{some}
+use lib.ListN.{get_elem?}
+use Rattle.atomic_table.specs.Table.{State, Me, Act, keeps, stepped, Allows, Splits, Joins}
+use Rattle.atomic_table.proofs.Lists.{set_else, set_again}
+use Rattle.std.proofs.lemmas.Option.{slice_get_within}
+use Rattle.calculus_table.specs.Rel.{IsWithin}
+use Rattle.calculus_table.specs.Algebra.{Algebra}
+use Rattle.calculus_table.specs.Composition.{full_of, composition, converse}
+use Rattle.calculus_table.proofs.Sets.{IsWithin-antisym, IsWithin-meet_r}
+use Rattle.network_words.specs.declared.fact.Fact.{Fact}
+use Rattle.network_words.specs.Edge.{edge_count, edge_at, edge_between, IsProperPair, IsProperTriple}
+use Rattle.network_words.specs.Network.{relation_between, narrowed_at, oriented}
+use Rattle.network_words.proofs.Pairs.{pair-outer, edge_between-lt}
+use Rattle.narrow_core.specs.declared.event.Event.{Event}
+use Rattle.narrow_core.specs.declared.event.Event.TheVariants.{Assert, Read, Narrow}
+use Rattle.narrow_core.specs.Actor.{ActorState, IsLiveAt, live_weight, fresh, seeing, stating, giving, joining}
+use Rattle.narrow_core.specs.Machine.{CoreState, IsProperFact}
+use Rattle.narrow_core.specs.Event.{IsAllowed, IsStep}
+use Rattle.narrow_core.specs.Bound.{Holds}
+use Rattle.narrow_core.proofs.Places.{get-set_same}
+use Rattle.narrow_core.proofs.Cores.{weights-one}
+use Rattle.narrow_core.proofs.Runs.{Holds-step, Holds-split, Holds-join}
+use Rattle.edge_table.specs.Opening.{padded, algebra_of}
+use Rattle.edge_table.specs.Rule.{core_of, IsKept, Sees, States, Weighs, no_view}
+use Rattle.edge_table.specs.declared.TheConstants.{MAX_WEIGHT}
+use Rattle.edge_table.specs.declared.rule.Opening.{Opening}
+use Rattle.edge_table.proofs.Places.{get-found, take-set_below, take-index, length-take_below}
+use Rattle.edge_table.proofs.Rules.{length-padded}
+
+-- ---- one edge narrowed
+
+-- narrowing a pair is one write of its edge's word
+pub narrowed_at-oriented : (m : Algebra) (n : ℕ) (words : List ℕ) (i k x : ℕ) →
+    narrowed_at m n words i k x ≡ slice_set words (edge_between n i k) (bit_and (slice_index words (edge_between n i k)) (oriented m i k x))
+narrowed_at-oriented m n words i k x =
+    elim (nat_lt i k) as (λ t.
+    cond t (slice_set words (edge_at n i k) (bit_and (slice_index words (edge_at n i k)) x)) (slice_set words (edge_at n k i) (bit_and (slice_index words (edge_at n k i)) (converse m x)))
+    ≡ slice_set words (cond t (edge_at n i k) (edge_at n k i)) (bit_and (slice_index words (cond t (edge_at n i k) (edge_at n k i))) (cond t x (converse m x)))) [
+      | true ↦ refl
+      | false ↦ refl
+    ]
+
+-- ---- the machine after a step
+
+-- the machine after the word e became n and the pass id had the view w
+abbrev after_step : CoreState → ℕ → ℕ → ℕ → ActorState → CoreState
+after_step c e n id w = record c { words = slice_set c.words e n; actors = slice_set c.actors id w }
+
+core_of-stepped : (o : Opening) (s : State ℕ ActorState) (e n id : ℕ) (w : ActorState) → core_of o (stepped s e n id [] w keeps) ≡ after_step (core_of o s) e n id w
+core_of-stepped o s e n id w =
+    ap (λ (ws : List ℕ). let c : CoreState = record (core_of o s) { words = ws; actors = slice_set s.views id w } in c) (take-set_below (edge_count o.nodes) s.words e n)
+
+IsKept-stepped : (o : Opening) (s : State ℕ ActorState) (e n id : ℕ) (w : ActorState) → IsKept o s → Holds (algebra_of o) (after_step (core_of o s) e n id w) →
+    IsKept o (stepped s e n id [] w keeps)
+IsKept-stepped o s e n id w kept holds = record {
+  bounded = kept.bounded;
+  length_is = length-set s.words e n ∙ kept.length_is;
+  holds = subst (Holds (algebra_of o)) (sym (core_of-stepped o s e n id w)) holds;
+}
+
+-- what a live actor has seen of an edge is the word, once it has seen the word
+shown-after : (m : Algebra) (c : CoreState) (e n id : ℕ) (a : ActorState) → Holds m (after_step c e n id (seeing e n a)) → id < length c.actors → IsTrue a.is_live →
+    e < length c.words → e < length a.seen → slice_index (seeing e n a).seen e ≡ n
+shown-after m c e n id a holds there live below inside =
+    let w = seeing e n a in
+    let seen : slice_index w.seen e ≡ bit_and (slice_index a.seen e) n = get_or-set_same a.seen e (bit_and (slice_index a.seen e) n) 0 inside in
+    let at : IsLiveAt (slice_set c.actors id w) id w = record { is_there = get-set_same c.actors id w there; is_live = live } in
+    let word : slice_index (slice_set c.words e n) e ≡ n = get_or-set_same c.words e n 0 below in
+    let within : IsWithin n (slice_index w.seen e) = subst (λ x. IsWithin x (slice_index w.seen e)) word ((holds.bound.words_within.actors id w at).seen.each e) in
+    IsWithin-antisym (slice_index w.seen e) n (subst (λ x. IsWithin x n) (sym seen) (IsWithin-meet_r (slice_index a.seen e) n)) within
+
+-- ---- the machine as a table keeps it
+
+-- what is known where the rule holds and a live pass has the view a
+record IsAt (o : Opening) (s : State ℕ ActorState) (id : ℕ) (a : ActorState) : Type 0 where
+  there : slice_get s.views id ≡ Some a
+  live : IsLiveAt s.views id a
+  below : id < length s.views
+  words : length (core_of o s).words ≡ edge_count o.nodes
+  seen : length a.seen ≡ edge_count o.nodes
+
+is_at : (o : Opening) (s : State ℕ ActorState) (id : ℕ) (a : ActorState) → IsKept o s → IsTrue a.is_live → get_elem? s.views id ≡ some a → IsAt o s id a
+is_at o s id a kept live found =
+    let there = get-found s.views id a found in
+    let at : IsLiveAt s.views id a = record { is_there = there; is_live = live } in
+    record {
+      there = there;
+      live = at;
+      below = slice_get_within s.views id a there;
+      words = kept.holds.core.words.length_is;
+      seen = (kept.holds.core.actors id a at).seen.length_is;
+    }
+
+-- ---- a load
+
+pub loads : (o : Opening) (slots id e : ℕ) (a : ActorState) → IsTrue a.is_live → e < edge_count o.nodes →
+    Allows (IsKept o) slots id (a, []) e (λ n. n) (λ n w. Sees e n (a, []) w)
+loads o slots id e a live below s kept homes found fits =
+    let m = algebra_of o in
+    let c = core_of o s in
+    let at : IsAt o s id a = is_at o s id a kept live found in
+    let n = slice_index s.words e in
+    let word : slice_index c.words e ≡ n = take-index (edge_count o.nodes) s.words e 0 below in
+    let same : slice_set c.words e n ≡ c.words = subst (λ x. slice_set c.words e x ≡ c.words) word (set-get_or c.words e 0) in
+    let w = seeing e n a in
+    let read : CoreState = record c { actors = slice_set c.actors id (seeing e (slice_index c.words e) a) } in
+    let holds : Holds m read = Holds-step m (Read id e) c read kept.holds
+    (record { live = record { actor = a; live = at.live }; below = below })
+    (record { actor = a; is_there = at.there; after = refl }) in
+    let next : Holds m (after_step c e n id w) =
+    subst (λ (ws : List ℕ). let t : CoreState = record c { words = ws; actors = slice_set c.actors id w } in Holds m t) (sym same)
+    (subst (λ x. let t : CoreState = record c { actors = slice_set c.actors id (seeing e x a) } in Holds m t) word holds) in (
+      w,
+      keeps,
+      tt,
+      IsKept-stepped o s e n id w kept next,
+      record {
+        after = refl;
+        carries = refl;
+        shown = shown-after m c e n id a next at.below live (omega (arith, at.words)) (omega (arith, at.seen));
+      },
+    )
+
+-- ---- a set narrowed
+
+-- the machine after a pair was narrowed, and the actor has seen its edge
+narrowed : (o : Opening) (s : State ℕ ActorState) (id i k x y : ℕ) (a b : ActorState) → (w : ActorState) →
+    y ≡ oriented (algebra_of o) i k x → edge_between o.nodes i k < edge_count o.nodes → length (core_of o s).words ≡ edge_count o.nodes →
+    let c = core_of o s in
+    let e = edge_between o.nodes i k in
+    let words = narrowed_at (algebra_of o) o.nodes c.words i k x in
+    let n = bit_and (slice_index s.words e) y in
+    w ≡ seeing e n b →
+    Holds (algebra_of o) (record c { words = words; actors = slice_set c.actors id (seeing e (slice_index words e) b) }) → Holds (algebra_of o) (after_step c e n id w)
+narrowed o s id i k x y a b w turned below size seen holds =
+    let m = algebra_of o in
+    let c = core_of o s in
+    let e = edge_between o.nodes i k in
+    let words = narrowed_at m o.nodes c.words i k x in
+    let n = bit_and (slice_index s.words e) y in
+    let word : slice_index c.words e ≡ slice_index s.words e = take-index (edge_count o.nodes) s.words e 0 below in
+    let put : words ≡ slice_set c.words e n =
+    narrowed_at-oriented m o.nodes c.words i k x ∙ ap (λ z. slice_set c.words e (bit_and (slice_index c.words e) z)) (sym turned) ∙ ap (λ z. slice_set c.words e (bit_and z y)) word in
+    let there : slice_index words e ≡ n = ap (λ (ws : List ℕ). slice_index ws e) put ∙ get_or-set_same c.words e n 0 (omega (arith, size)) in
+    subst (λ (v : ActorState). let t : CoreState = record c { words = slice_set c.words e n; actors = slice_set c.actors id v } in Holds m t) (sym seen)
+    (subst (λ z. let t : CoreState = record c { words = slice_set c.words e n; actors = slice_set c.actors id (seeing e z b) } in Holds m t) there
+    (subst (λ (ws : List ℕ). let t : CoreState = record c { words = ws; actors = slice_set c.actors id (seeing e (slice_index words e) b) } in Holds m t) put holds))
+
+-- with the composition of what the pass has seen along a third node
+pub narrows : (o : Opening) (slots id i j k y : ℕ) (a : ActorState) → IsTrue a.is_live → IsProperTriple o.nodes i j k →
+    y ≡ oriented (algebra_of o) i k (composition (algebra_of o) (relation_between (algebra_of o) o.nodes a.seen i j) (relation_between (algebra_of o) o.nodes a.seen j k)) →
+    let e = edge_between o.nodes i k in
+    Allows (IsKept o) slots id (a, []) e (λ n. bit_and n y) (λ n w. Sees e (bit_and n y) (a, []) w)
+narrows o slots id i j k y a live triple turned s kept homes found fits =
+    let m = algebra_of o in
+    let c = core_of o s in
+    let e = edge_between o.nodes i k in
+    let at : IsAt o s id a = is_at o s id a kept live found in
+    let below : e < edge_count o.nodes = edge_between-lt o.nodes i k (pair-outer o.nodes i j k triple) in
+    let x = composition m (relation_between m o.nodes a.seen i j) (relation_between m o.nodes a.seen j k) in
+    let words = narrowed_at m o.nodes c.words i k x in
+    let n = bit_and (slice_index s.words e) y in
+    let w = seeing e n a in
+    let t : CoreState = record c { words = words; actors = slice_set c.actors id (seeing e (slice_index words e) a) } in
+    let holds : Holds m t = Holds-step m (Narrow id i j k) c t kept.holds
+    (record { live = record { actor = a; live = at.live }; proper = triple })
+    (record { actor = a; is_there = at.there; words = words; words_is = refl; after = refl }) in
+    let next : Holds m (after_step c e n id w) = narrowed o s id i k x y a a w turned below at.words refl holds in (
+      w,
+      keeps,
+      tt,
+      IsKept-stepped o s e n id w kept next,
+      record {
+        after = refl;
+        carries = refl;
+        shown = shown-after m c e n id a next at.below live (omega (arith, at.words)) (omega (arith, at.seen));
+      },
+    )
+
+-- with the set of a fact, which the pass states
+pub asserts : (o : Opening) (slots id y : ℕ) (fact : Fact) (a : ActorState) → IsTrue a.is_live → IsProperFact o.nodes (full_of (algebra_of o)) fact →
+    y ≡ oriented (algebra_of o) fact.i fact.j fact.rel →
+    let e = edge_between o.nodes fact.i fact.j in
+    Allows (IsKept o) slots id (a, []) e (λ n. bit_and n y) (λ n w. States fact e (bit_and n y) (a, []) w)
+asserts o slots id y fact a live proper turned s kept homes found fits =
+    let m = algebra_of o in
+    let c = core_of o s in
+    let e = edge_between o.nodes fact.i fact.j in
+    let at : IsAt o s id a = is_at o s id a kept live found in
+    let below : e < edge_count o.nodes = edge_between-lt o.nodes fact.i fact.j proper.pair in
+    let words = narrowed_at m o.nodes c.words fact.i fact.j fact.rel in
+    let n = bit_and (slice_index s.words e) y in
+    let b = stating fact a in
+    let w = seeing e n b in
+    let t : CoreState = record c { words = words; actors = slice_set c.actors id (seeing e (slice_index words e) b) } in
+    let holds : Holds m t = Holds-step m (Assert id fact) c t kept.holds
+    (record { live = record { actor = a; live = at.live }; proper = proper })
+    (record { actor = a; is_there = at.there; words = words; words_is = refl; after = refl }) in
+    let next : Holds m (after_step c e n id w) = narrowed o s id fact.i fact.j fact.rel y a b w turned below at.words refl holds in (
+      w,
+      keeps,
+      tt,
+      IsKept-stepped o s e n id w kept next,
+      record {
+        after = refl;
+        carries = refl;
+        shown = shown-after m c e n id b next at.below live (omega (arith, at.words)) (omega (arith, at.seen));
+      },
+    )
+
+-- ---- a load that tells the weight
+
+pub weighs : (o : Opening) (slots id : ℕ) (a : ActorState) → IsTrue a.is_live → Allows (IsKept o) slots id (a, []) 0 (λ n. n) (λ n w. Weighs (a, []) w)
+weighs o slots id a live s kept homes found fits =
+    let at : IsAt o s id a = is_at o s id a kept live found in
+    let light : a.weight ≤ o.weight = weights-one o.weight s.views id a at.live kept.holds.bound.weights in
+    let words : slice_set s.words 0 (slice_index s.words 0) ≡ s.words = set-get_or s.words 0 0 in
+    let views : slice_set s.views id a ≡ s.views = set_again s.views id a found in (
+      a,
+      keeps,
+      tt,
+      subst (λ (vs : List ActorState). let t : State ℕ ActorState = record { words = slice_set s.words 0 (slice_index s.words 0); homes = s.homes; views = vs } in IsKept o t) (sym views)
+          (subst (λ (ws : List ℕ). let t : State ℕ ActorState = record { words = ws; homes = s.homes; views = s.views } in IsKept o t) (sym words) kept),
+      record { same = refl; bounded = let b = kept.bounded in omega arith },
+    )
+
+-- ---- a split and a join
+
+pub splits : (o : Opening) (id left : ℕ) (a : ActorState) → IsTrue a.is_live → 0 < left → left < a.weight → Splits (IsKept o) id a (giving left a) (fresh left a.seen)
+splits o id left a live gives less s kept found =
+    let at : IsAt o s id a = is_at o s id a kept live found in
+    record { bounded = kept.bounded; length_is = kept.length_is; holds = Holds-split (algebra_of o) (core_of o s) id left a kept.holds at.live gives less }
+
+pub joins : (o : Opening) (id other : ℕ) (a b : ActorState) → IsTrue a.is_live → IsTrue b.is_live → Joins (IsKept o) id a other b (joining a b) no_view
+joins o id other a b live other_live s kept found differ there =
+    let at : IsAt o s id a = is_at o s id a kept live found in
+    let there' : get_elem? s.views other ≡ some b = sym (set_else s.views id other (joining a b) differ) ∙ there in
+    let at' : IsAt o s other b = is_at o s other b kept other_live there' in
+    record {
+      bounded = kept.bounded;
+      length_is = kept.length_is;
+      holds = Holds-join (algebra_of o) (core_of o s) id other a b no_view kept.holds (λ e. differ (sym e)) at.live at'.live refl;
+    }
+
+-- ---- the same of a seat, which holds no slot
+
+me_alone : (me : Me ℕ ActorState) → me.1 ≡ [] → me ≡ (let alone : Me ℕ ActorState = (me.0, []) in alone)
+me_alone me e = ap (λ (xs : List (ℕ × ℕ)). let here : Me ℕ ActorState = (me.0, xs) in here) e
+
+pub seat_loads : (o : Opening) (slots id e : ℕ) (me : Me ℕ ActorState) → me.1 ≡ [] → IsTrue me.0.is_live → e < edge_count o.nodes →
+    Allows (IsKept o) slots id me e (λ n. n) (λ n w. Sees e n me w)
+seat_loads o slots id e me alone live below =
+    subst (λ (v : Me ℕ ActorState). Allows (IsKept o) slots id v e (λ n. n) (λ n w. Sees e n v w)) (sym (me_alone me alone)) (loads o slots id e me.0 live below)
+
+pub seat_narrows : (o : Opening) (slots id e i j k y : ℕ) (me : Me ℕ ActorState) → me.1 ≡ [] → IsTrue me.0.is_live → IsProperTriple o.nodes i j k → e ≡ edge_between o.nodes i k →
+    y ≡ oriented (algebra_of o) i k (composition (algebra_of o) (relation_between (algebra_of o) o.nodes me.0.seen i j) (relation_between (algebra_of o) o.nodes me.0.seen j k)) →
+    Allows (IsKept o) slots id me e (λ n. bit_and n y) (λ n w. Sees e (bit_and n y) me w)
+seat_narrows o slots id e i j k y me alone live triple edge turned =
+    subst (λ d. Allows (IsKept o) slots id me d (λ n. bit_and n y) (λ n w. Sees d (bit_and n y) me w)) (sym edge)
+    (subst (λ (v : Me ℕ ActorState). Allows (IsKept o) slots id v (edge_between o.nodes i k) (λ n. bit_and n y) (λ n w. Sees (edge_between o.nodes i k) (bit_and n y) v w)) (sym (me_alone me alone))
+    (narrows o slots id i j k y me.0 live triple turned))
+
+pub seat_asserts : (o : Opening) (slots id e y : ℕ) (fact : Fact) (me : Me ℕ ActorState) → me.1 ≡ [] → IsTrue me.0.is_live → IsProperFact o.nodes (full_of (algebra_of o)) fact →
+    e ≡ edge_between o.nodes fact.i fact.j → y ≡ oriented (algebra_of o) fact.i fact.j fact.rel →
+    Allows (IsKept o) slots id me e (λ n. bit_and n y) (λ n w. States fact e (bit_and n y) me w)
+seat_asserts o slots id e y fact me alone live proper edge turned =
+    subst (λ d. Allows (IsKept o) slots id me d (λ n. bit_and n y) (λ n w. States fact d (bit_and n y) me w)) (sym edge)
+    (subst (λ (v : Me ℕ ActorState). Allows (IsKept o) slots id v (edge_between o.nodes fact.i fact.j) (λ n. bit_and n y) (λ n w. States fact (edge_between o.nodes fact.i fact.j) (bit_and n y) v w)) (sym (me_alone me alone))
+    (asserts o slots id y fact me.0 live proper turned))
+
+pub seat_weighs : (o : Opening) (slots id : ℕ) (me : Me ℕ ActorState) → me.1 ≡ [] → IsTrue me.0.is_live → Allows (IsKept o) slots id me 0 (λ n. n) (λ n w. Weighs me w)
+seat_weighs o slots id me alone live =
+    subst (λ (v : Me ℕ ActorState). Allows (IsKept o) slots id v 0 (λ n. n) (λ n w. Weighs v w)) (sym (me_alone me alone)) (weighs o slots id me.0 live)

@@ -1,0 +1,33 @@
+use Rattle.std.proofs.Common.{◌≡◌, ◌<◌, ◌≤◌, ◌∙◌, length, ap, subst}
+use Rattle.network_words.specs.Edge.{edge_count}
+use Rattle.edge_table.specs.Opening.{OpenState, PassState}
+use Rattle.edge_table.proofs.Passes.{IsRefreshed-none, IsRefreshed-more, IsRefreshed-all}
+use Rattle.edge_table.proofs.open_net.OpenNet.refresh.Goals as goal
+
+pub loop-edge-init : goal.loop-edge-init
+loop-edge-init c = record { pass = c.requires.pass; sofar = IsRefreshed-none c.args.pass.now c.args.snap.now (edge_count c.args.self.now.opening.nodes) c.requires.snap }
+
+pub loop-edge-preserved : goal.loop-edge-preserved
+loop-edge-preserved c =
+    let nodes = c.self.invariant.nodes_are ∙ ap (λ (t : OpenState). t.opening.nodes) c.self.view_is in
+    let below : c.loop-edge.edge < edge_count c.args.self.now.opening.nodes = subst (λ n. c.loop-edge.edge < edge_count n) nodes c.loop-edge-test.true in
+    record {
+      pass = c.load-word.ensures.pass;
+      sofar = IsRefreshed-more c.args.pass.now c.loop-edge.pass c.load-word.new.pass c.loop-edge.snap c.take.new.self (edge_count c.args.self.now.opening.nodes) c.loop-edge.edge c.load-word.result
+          c.loop-edge.invariant.sofar c.load-word.ensures.sees c.load-word.ensures.shown c.take.ensures.words below;
+    }
+
+pub returns-clause-reads : goal.returns-clause-reads
+returns-clause-reads c =
+    let h = c.loop-edge.invariant.sofar in
+    record { rest = h.rest; length_is = h.length_is; within = h.within }
+
+pub returns-clause-snap : goal.returns-clause-snap
+returns-clause-snap c =
+    let n = c.args.self.now.opening.nodes in
+    let nodes = c.self.invariant.nodes_are ∙ ap (λ (t : OpenState). t.opening.nodes) c.self.view_is in
+    let end : edge_count n ≤ c.loop-edge.edge = subst (λ x. edge_count x ≤ c.loop-edge.edge) nodes c.loop-edge-test.false in
+    let own = rw (← c.pass.view_is) at c.requires.pass in
+    let size : length c.args.pass.now.actor.seen ≡ edge_count n =
+    subst (λ (p : PassState). length p.actor.seen ≡ edge_count n) c.pass.view_is (c.pass.invariant.proper.seen.length_is ∙ ap (λ x. edge_count x) own.nodes) in
+    IsRefreshed-all c.args.pass.now c.loop-edge.pass c.loop-edge.snap (edge_count n) c.loop-edge.edge c.loop-edge.invariant.sofar end size
