@@ -20,7 +20,7 @@ use Rattle.qsr_lex.specs.Names.{is_name}
 use Rattle.qsr_lex.specs.Numbers.{number_of}
 use Rattle.qsr_lex.specs.TextLines.{line_count, readable_text}
 use Rattle.qsr_lex.specs.TokenLines.{TokenLine, token_lines, token_line}
-use Rattle.qsr_lex.specs.Words.{names_at, is_same_kind, at_end, ends_there, is_end_line}
+use Rattle.qsr_lex.specs.LineTokens.{names_at, is_same_kind, at_end, ends_there, is_end_line}
 use Rattle.qsr_lex.specs.Printed.{lexeme_from, printed, printed_token_lines}
 use Rattle.qsr_lex.specs.declared.tokens.TokenKind.TheVariants.{Word, Stop}
 use Rattle.qsr_lex.proofs.CleanLines.{readable_text-all}
@@ -28,10 +28,10 @@ use Rattle.qsr_lex.proofs.PrintedText.{IsReadAgain-from_tokens}
 use Rattle.qsr_lex.proofs.PrintedNames.{IsPrintedSet-from_tests}
 use Rattle.qsr_lex.proofs.PrintedNumbers.{IsPrintedNumber-below}
 use Rattle.named_sets.specs.Named.{set_of}
-use Rattle.named_sets.specs.Written.{members, set_words}
+use Rattle.named_sets.specs.Written.{members, set_tokens}
 use Rattle.named_sets.proofs.ReadSets.{set_of-members}
 use Rattle.named_sets.proofs.WrittenSets.{members-names}
-use Rattle.network_file.specs.LineForms.{nodes_form, names_form, after_names, exactly, is_named, as_node, node_at, FactWords, fact_form}
+use Rattle.network_file.specs.LineForms.{nodes_form, names_form, after_names, exactly, is_named, as_node, node_at, FactTokens, fact_form}
 use Rattle.network_file.specs.NetworkText.{network_text}
 use Rattle.network_file.specs.NetworkFile.{◌>>=◌, Said, end_at, nodes_within, nodes_line, names_here, names_line, node_by, node_of, differing, fact_line, closed, fact_lines, read_lines, read_network, IsNetworkOf, IsFileOf}
 use Rattle.network_file.specs.ReadAgain.{IsPrintable}
@@ -40,7 +40,7 @@ use Rattle.network_file.specs.declared.text_end.TextEnd.TheVariants.{Whole}
 use Rattle.network_file.specs.declared.fault.FileFault.{FileFault}
 use Rattle.network_file.specs.declared.fault.FileFault.TheVariants.{Nodes, Syntax, NoNode, SelfEdge, Unknown}
 use Rattle.network_file.proofs.NamesLine.{has_twice-distinct, names_line-read}
-use Rattle.network_file.proofs.PrintedLines.{small, pairs_below, edge_words, names_words, names_lines, file_lines, network_text-printed, IsPair, file_tokens, pairs_below-pairs, Among, pairs_below-has}
+use Rattle.network_file.proofs.PrintedLines.{small, pairs_below, edge_tokens_of, names_tokens_of, names_lines, file_lines, network_text-printed, IsPair, file_tokens, pairs_below-pairs, Among, pairs_below-has}
 
 -- ---- one network at most
 
@@ -108,15 +108,15 @@ line_after (x ∷ xs) = 3
 
 names_line-printed : (c : NamedAlgebra) (net : Network) (ps : List (ℕ × ℕ)) (names : List (List ℕ)) → net.nodes ≤ MAX_NODES → AllByRecursion (IsPair net.nodes) ps → list_all is_name names ≡ true → AreDistinct names →
     (0 < length names → length names ≡ net.nodes) →
-    names_line net.nodes (printed_token_lines 2 (names_lines names ++ (map (edge_words c net) ps ++ end_line))) ≡ Ok (names, printed_token_lines (line_after names) (map (edge_words c net) ps ++ end_line))
+    names_line net.nodes (printed_token_lines 2 (names_lines names ++ (map (edge_tokens_of c net) ps ++ end_line))) ≡ Ok (names, printed_token_lines (line_after names) (map (edge_tokens_of c net) ps ++ end_line))
 names_line-printed c net [] [] few pairs all d l = refl
 names_line-printed c net (p ∷ ps) [] few pairs all d l =
     let first : p.0 < MAX_NODES = omega (arith, pairs.0.order, pairs.0.below) in
-    let lines = printed_token_lines 2 (map (edge_words c net) (p ∷ ps) ++ end_line) in
-    let rest = map lexeme_from (decimal p.1 ∷ set_words c (slice_index net.words (edge_at net.nodes p.0 p.1))) in
-    ap (names_here net.nodes (token_line 2 (lexeme_from (decimal p.0) ∷ rest)) (printed_token_lines 3 (map (edge_words c net) ps ++ end_line))) (no_names_word p.0 rest first)
+    let lines = printed_token_lines 2 (map (edge_tokens_of c net) (p ∷ ps) ++ end_line) in
+    let rest = map lexeme_from (decimal p.1 ∷ set_tokens c (slice_index net.words (edge_at net.nodes p.0 p.1))) in
+    ap (names_here net.nodes (token_line 2 (lexeme_from (decimal p.0) ∷ rest)) (printed_token_lines 3 (map (edge_tokens_of c net) ps ++ end_line))) (no_names_word p.0 rest first)
 names_line-printed c net ps (x ∷ xs) few pairs all d l =
-    names_line-read net.nodes 2 _ (printed_token_lines 3 (map (edge_words c net) ps ++ end_line)) (map lexeme_from (names_words (x ∷ xs)))
+    names_line-read net.nodes 2 _ (printed_token_lines 3 (map (edge_tokens_of c net) ps ++ end_line)) (map lexeme_from (names_tokens_of (x ∷ xs)))
     (map lexeme_from ((40 ∷ []) ∷ ((x ∷ xs) ++ (41 ∷ []) ∷ []))) (x ∷ xs) refl refl (named_form net.nodes (x ∷ xs) all (l (omega arith))) (has_twice-distinct (x ∷ xs) d)
 
 -- ---- the line of a fact
@@ -124,7 +124,7 @@ names_line-printed c net ps (x ∷ xs) few pairs all d l =
 abbrev fact_from : ℕ → ℕ → ℕ → Fact
 fact_from i j set = record { i = i; j = j; rel = set }
 
-abbrev words_from : List ℕ → List ℕ → List (List ℕ) → FactWords
+abbrev words_from : List ℕ → List ℕ → List (List ℕ) → FactTokens
 words_from i j set = record { first = i; second = j; set = set }
 
 abbrev fact_at : Network → ℕ × ℕ → Fact
@@ -158,13 +158,13 @@ differ_step c line ms i k = differing line i k >>= λ j. set_step c line ms i j
 abbrev second_step : NamedAlgebra → ℕ → List (List ℕ) → ℕ → List ℕ → List (List ℕ) → ℕ → Result Fact FileFault
 second_step c n names line word ms i = node_of n names line word >>= λ k. differ_step c line ms i k
 
-abbrev first_step : NamedAlgebra → ℕ → List (List ℕ) → ℕ → FactWords → Result Fact FileFault
+abbrev first_step : NamedAlgebra → ℕ → List (List ℕ) → ℕ → FactTokens → Result Fact FileFault
 first_step c n names line words = node_of n names line words.first >>= λ i. second_step c n names line words.second words.set i
 
 other_test : (i j : ℕ) → i < j → (i == j) ≡ false
 other_test i j h = grind (arith, nat_tests)
 
-fact_line-printed : (c : NamedAlgebra) (net : Network) (line : ℕ) (p : ℕ × ℕ) → IsPrintable c net → IsPair net.nodes p → fact_line c net.nodes net.names (token_line line (map lexeme_from (edge_words c net p))) ≡ Ok (fact_at net p)
+fact_line-printed : (c : NamedAlgebra) (net : Network) (line : ℕ) (p : ℕ × ℕ) → IsPrintable c net → IsPair net.nodes p → fact_line c net.nodes net.names (token_line line (map lexeme_from (edge_tokens_of c net p))) ≡ Ok (fact_at net p)
 fact_line-printed c net line p h pair =
     let a = slice_index net.words (edge_at net.nodes p.0 p.1) in
     let ms = members c a in
@@ -181,18 +181,18 @@ fact_line-printed c net line p h pair =
 
 -- ---- the lines of facts
 
-fact_no_end : (c : NamedAlgebra) (net : Network) (p : ℕ × ℕ) → p.0 < MAX_NODES → is_end_line (map lexeme_from (edge_words c net p)) ≡ false
+fact_no_end : (c : NamedAlgebra) (net : Network) (p : ℕ × ℕ) → p.0 < MAX_NODES → is_end_line (map lexeme_from (edge_tokens_of c net p)) ≡ false
 fact_no_end c net p few =
-    let rest = map lexeme_from (decimal p.1 ∷ set_words c (slice_index net.words (edge_at net.nodes p.0 p.1))) in
+    let rest = map lexeme_from (decimal p.1 ∷ set_tokens c (slice_index net.words (edge_at net.nodes p.0 p.1))) in
     ap (λ k. ends_there (cond (is_same_kind k Stop) (Some rest) None)) (IsPrintedNumber-below p.0 (small p.0 (omega arith))).word
 
 fact_lines-printed : (c : NamedAlgebra) (net : Network) (k line : ℕ) (ps : List (ℕ × ℕ)) (facts : List Fact) → IsPrintable c net → AllByRecursion (IsPair net.nodes) ps →
-    fact_lines c (Whole k) net.nodes net.names facts (printed_token_lines line (map (edge_words c net) ps ++ end_line)) ≡ Ok (facts ++ map (fact_at net) ps)
+    fact_lines c (Whole k) net.nodes net.names facts (printed_token_lines line (map (edge_tokens_of c net) ps ++ end_line)) ≡ Ok (facts ++ map (fact_at net) ps)
 fact_lines-printed c net k line [] facts h pairs = ap Ok (sym (append-nil facts))
 fact_lines-printed c net k line (p ∷ ps) facts h pairs =
     let few : p.0 < MAX_NODES = omega (arith, h.shape.bounded, pairs.0.order, pairs.0.below) in
-    let after = printed_token_lines (line + 1) (map (edge_words c net) ps ++ end_line) in
-    let l = token_line line (map lexeme_from (edge_words c net p)) in
+    let after = printed_token_lines (line + 1) (map (edge_tokens_of c net) ps ++ end_line) in
+    let l = token_line line (map lexeme_from (edge_tokens_of c net p)) in
     ap (λ b. cond b (closed (Whole k) facts after) (fact_line c net.nodes net.names l >>= λ fact. fact_lines c (Whole k) net.nodes net.names (facts ++ fact ∷ []) after)) (fact_no_end c net p few)
     ∙ ap (λ s. s >>= λ fact. fact_lines c (Whole k) net.nodes net.names (facts ++ fact ∷ []) after) (fact_line-printed c net line p h pairs.0)
     ∙ fact_lines-printed c net k (line + 1) ps (facts ++ fact_at net p ∷ []) h pairs.1
@@ -239,7 +239,7 @@ printed_is_read c net h =
     let some : 0 < n = h.shape.some in
     let ps = pairs_below n n in
     let pairs = pairs_below-pairs n n in
-    let edges = map (edge_words c net) ps ++ end_line in
+    let edges = map (edge_tokens_of c net) ps ++ end_line in
     let text = printed (file_lines c net ps) in
     let again = IsReadAgain-from_tokens (file_lines c net ps) (file_tokens c net ps few h.calculus.one_each h.bases h.names pairs) in
     let facts = map (fact_at net) ps in

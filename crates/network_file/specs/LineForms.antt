@@ -3,7 +3,7 @@ use Rattle.std.specs.Prelude.{ℕ, List, [], ◌∷◌, Bool, true, false, ◌&&
 use Rattle.qsr_lex.specs.Lexemes.{Lexeme}
 use Rattle.qsr_lex.specs.Names.{is_name}
 use Rattle.qsr_lex.specs.Numbers.{number_of}
-use Rattle.qsr_lex.specs.Words.{word_at, names_at, after_word, ◌>>=◌, at_end}
+use Rattle.qsr_lex.specs.LineTokens.{word_at, names_at, after_word, ◌>>=◌, at_end}
 
 -- `nodes N`: the number
 abbrev pub nodes_form : List Lexeme → Option ℕ
@@ -48,13 +48,13 @@ node_at named words = do
   as_node named found
 
 -- the words of a fact's line: its two nodes, and the base relations of its set
-pub record FactWords : Type 0 where
+pub record FactTokens : Type 0 where
   pub first : List ℕ
   pub second : List ℕ
   pub set : List (List ℕ)
 
 -- `I J ( R .. )`
-abbrev pub fact_form : Bool → List Lexeme → Option FactWords
+abbrev pub fact_form : Bool → List Lexeme → Option FactTokens
 fact_form named words = do
   first ← node_at named words
   second ← node_at named first.1

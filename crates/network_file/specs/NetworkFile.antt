@@ -14,7 +14,7 @@ use Rattle.network_words.specs.declared.fact.Fact.{Fact}
 use Rattle.qsr_lex.specs.Lexemes.{Lexeme}
 use Rattle.qsr_lex.specs.Numbers.{number_of}
 use Rattle.qsr_lex.specs.TokenLines.{TokenLine, token_lines}
-use Rattle.qsr_lex.specs.Words.{is_end_line}
+use Rattle.qsr_lex.specs.LineTokens.{is_end_line}
 use Rattle.qsr_lex.specs.TextLines.{bad_line, line_count, readable_text}
 use Rattle.network_file.specs.LineForms.{nodes_form, names_form, after_names, fact_form, is_named}
 use Rattle.network_file.specs.declared.text_end.TextEnd.{TextEnd}

@@ -6,7 +6,7 @@ ghost use Rattle.network_words.specs.Edge.{IsProperPair};
 ghost use Rattle.network_words.specs.Facts.{IsNetworkOfFacts};
 ghost use Rattle.network_words.specs.declared.fact.Fact.{Fact};
 ghost use Rattle.qsr_lex.specs.TokenLines.{token_line};
-ghost use Rattle.qsr_lex.specs.Words.{is_end_line};
+ghost use Rattle.qsr_lex.specs.LineTokens.{is_end_line};
 ghost use Rattle.network_file.specs.LineForms.{is_named};
 ghost use Rattle.network_file.specs.NetworkFile.{FailsWith, node_of, fact_line, closed, fact_lines, ReadsLine, ReadsFacts, MeetsEnd};
 

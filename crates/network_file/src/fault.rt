@@ -1,6 +1,6 @@
 ghost use Rattle.std.specs.Prelude.{◌≡◌};
 
-use qsr_lex::NamesStop;
+use qsr_lex::NamesFault;
 use thiserror::Error;
 
 /// Why a text is no network file over a calculus. The first faulty line decides.
@@ -33,12 +33,12 @@ pub enum FileFault {
 }
 
 /// The fault of a line whose names can't be read.
-pub(crate) fn form_fault(line: u32, stop: NamesStop) -> FileFault
-    ensures form { stop ≡ NamesStop.Form → result ≡ FileFault.Syntax line }
-    ensures memory { stop ≡ NamesStop.Memory → result ≡ FileFault.Memory }
+pub(crate) fn form_fault(line: u32, stop: NamesFault) -> FileFault
+    ensures form { stop ≡ NamesFault.Form → result ≡ FileFault.Syntax line }
+    ensures memory { stop ≡ NamesFault.Memory → result ≡ FileFault.Memory }
 {
     match stop {
-        NamesStop::Form => FileFault::Syntax { line },
-        NamesStop::Memory => FileFault::Memory,
+        NamesFault::Form => FileFault::Syntax { line },
+        NamesFault::Memory => FileFault::Memory,
     }
 }

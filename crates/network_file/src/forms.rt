@@ -3,19 +3,19 @@ ghost use Rattle.std.specs.Prelude.{◌≡◌, map, All, IfOk, IsErrOf, MatchOpt
 ghost use Rattle.qsr_lex.specs.Names.{is_name};
 ghost use Rattle.network_file.specs.LineForms.{nodes_form, names_form, node_at, is_node_word, fact_form};
 
-use qsr_lex::{NamesStop, WordReader, is_name, number};
+use qsr_lex::{NamesFault, TokenReader, is_name, number};
 use std::alloc::Global;
 
 /// The words of a fact's line: its two nodes, and the base relations of its set.
 #[derive(Drop)]
-pub(crate) struct FactWords<'a> {
+pub(crate) struct FactTokens<'a> {
     pub first: &'a [u8],
     pub second: &'a [u8],
     pub set: Vec<&'a [u8]>,
 }
 
 /// The number of a line `nodes N`.
-pub(crate) fn nodes_form(words: &mut WordReader<'_>) -> Option<u64>
+pub(crate) fn nodes_form(words: &mut TokenReader<'_>) -> Option<u64>
     ensures { result ≡ nodes_form words.old }
 {
     if !words.take_word(b"nodes") {
@@ -29,17 +29,17 @@ pub(crate) fn nodes_form(words: &mut WordReader<'_>) -> Option<u64>
 pub(crate) fn names_form<'a>(
     alloc: Global,
     count: u32,
-    words: &mut WordReader<'a>,
-) -> Result<Vec<&'a [u8]>, NamesStop>
+    words: &mut TokenReader<'a>,
+) -> Result<Vec<&'a [u8]>, NamesFault>
     ensures ok { IfOk result (λ names. names_form count words.old ≡ Some (map (λ name. name.now) names.items)) }
     ensures each { IfOk result (λ names. All (λ name. is_name name.now ≡ true) names.items) }
-    ensures form { IsErrOf result NamesStop.Form → names_form count words.old ≡ None }
+    ensures form { IsErrOf result NamesFault.Form → names_form count words.old ≡ None }
 {
     let names = words.names(alloc)?;
     if names.len() == count as usize && words.is_empty() {
         Ok(names)
     } else {
-        Err(NamesStop::Form)
+        Err(NamesFault::Form)
     }
 }
 
@@ -49,7 +49,7 @@ fn is_node_word(named: bool, word: &[u8]) -> bool
     number(word).is_some() || (named && is_name(word))
 }
 
-fn node_at<'a>(named: bool, words: &mut WordReader<'a>) -> Option<&'a [u8]>
+fn node_at<'a>(named: bool, words: &mut TokenReader<'a>) -> Option<&'a [u8]>
     ensures { MatchOption result (node_at named words.old ≡ None) (λ word. node_at named words.old ≡ Some (word.now, words.new)) }
 {
     let word = words.word()?;
@@ -64,25 +64,25 @@ fn node_at<'a>(named: bool, words: &mut WordReader<'a>) -> Option<&'a [u8]>
 pub(crate) fn fact_form<'a>(
     alloc: Global,
     named: bool,
-    words: &mut WordReader<'a>,
-) -> Result<FactWords<'a>, NamesStop>
+    words: &mut TokenReader<'a>,
+) -> Result<FactTokens<'a>, NamesFault>
     ensures ok { IfOk result (λ found. fact_form named words.old ≡ Some (record {
       first = found.first.now;
       second = found.second.now;
       set = map (λ name. name.now) found.set.items;
     })) }
-    ensures form { IsErrOf result NamesStop.Form → fact_form named words.old ≡ None }
+    ensures form { IsErrOf result NamesFault.Form → fact_form named words.old ≡ None }
 {
     let Some(first) = node_at(named, words) else {
-        return Err(NamesStop::Form);
+        return Err(NamesFault::Form);
     };
     let Some(second) = node_at(named, words) else {
-        return Err(NamesStop::Form);
+        return Err(NamesFault::Form);
     };
     let set = words.names(alloc)?;
     if words.is_empty() {
-        Ok(FactWords { first, second, set })
+        Ok(FactTokens { first, second, set })
     } else {
-        Err(NamesStop::Form)
+        Err(NamesFault::Form)
     }
 }
