@@ -15,6 +15,10 @@ member_text names a r = if bit_at a r == 1 then word_text names r else []
 abbrev pub set_text : NamedAlgebra → ℕ → List ℕ
 set_text c a = codes "( " ++ text_below c.algebra.size (member_text c.names a) ++ codes ")"
 
+-- a set and an LF
+abbrev pub set_line : NamedAlgebra → ℕ → List ℕ
+set_line c a = set_text c a ++ codes "\n"
+
 -- the names of the members of a
 abbrev pub members : NamedAlgebra → ℕ → List (List ℕ)
 members c a = members_below c.names a c.algebra.size
