@@ -7,6 +7,6 @@ abbrev pub ◌>>=◌ : {E A B : Type 0} → Result A E → (A → Result B E) �
 Ok a >>= f = f a
 Err e >>= f = Err e
 
--- a fault other than out of memory is this step's
-abbrev pub FailsWith : {E A : Type 0} → E → Result A E → E → Type 0
-FailsWith memory step fault = fault ≢ memory → step ≡ Err fault
+-- the fault is this step's, unless it is the one that comes from no step
+abbrev pub FailsExcept : {E A : Type 0} → E → Result A E → E → Type 0
+FailsExcept memory step fault = fault ≢ memory → step ≡ Err fault

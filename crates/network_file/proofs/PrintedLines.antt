@@ -45,10 +45,10 @@ file_lines c net ps = (codes "nodes" ∷ decimal net.nodes ∷ []) ∷ (names_li
 edge_line-printed : (c : NamedAlgebra) (net : Network) (p : ℕ × ℕ) → edge_line c net p.0 p.1 ≡ printed_line (edge_tokens_of c net p)
 edge_line-printed c net p =
     let a = slice_index net.words (edge_at net.nodes p.0 p.1) in
-    ap (λ x. decimal p.0 ++ codes " " ++ decimal p.1 ++ codes " " ++ x ++ codes "\n") (set_text-spaced c a)
+    ap (λ x. decimal p.0 ++ codes " " ++ decimal p.1 ++ codes " " ++ (x ++ codes "\n")) (set_text-spaced c a)
     ∙ shape (decimal p.0) (decimal p.1) (spaced (set_tokens c a))
   where
-    shape : (i j x : List ℕ) → i ++ codes " " ++ j ++ codes " " ++ x ++ codes "\n" ≡ (i ++ 32 ∷ (j ++ 32 ∷ x)) ++ 10 ∷ []
+    shape : (i j x : List ℕ) → i ++ codes " " ++ j ++ codes " " ++ (x ++ codes "\n") ≡ (i ++ 32 ∷ (j ++ 32 ∷ x)) ++ 10 ∷ []
     shape i j x = simp append_assoc
 
 if_pair : (b : Bool) (f : ℕ × ℕ → List ℕ) (p : ℕ × ℕ) → cond b (f p) [] ≡ flat_map f (cond b (p ∷ []) [])
@@ -86,10 +86,10 @@ names-printed n names l =
     shape : (x : List ℕ) → codes "names ( " ++ x ++ codes ")\n" ≡ (codes "names" ++ 32 ∷ (40 ∷ 32 ∷ (x ++ 41 ∷ []))) ++ 10 ∷ []
     shape x = simp append_assoc
 
-names_line-printed : (n : ℕ) (names : List (List ℕ)) → (0 < length names → length names ≡ n) →
+names_text-printed : (n : ℕ) (names : List (List ℕ)) → (0 < length names → length names ≡ n) →
     cond (length names == 0) [] (codes "names ( " ++ text_below n (word_text names) ++ codes ")\n") ≡ printed (names_lines names)
-names_line-printed n [] l = refl
-names_line-printed n (x ∷ xs) l =
+names_text-printed n [] l = refl
+names_text-printed n (x ∷ xs) l =
     let some : (length (x ∷ xs) == 0) ≡ false = grind (arith, nat_tests) in
     ap (λ b. cond b [] (codes "names ( " ++ text_below n (word_text (x ∷ xs)) ++ codes ")\n")) some
     ∙ names-printed n (x ∷ xs) (l (omega arith))
@@ -103,7 +103,7 @@ pub network_text-printed : (c : NamedAlgebra) (net : Network) → (0 < length ne
 network_text-printed c net l =
     let n = net.nodes in
     let edges = map (edge_tokens_of c net) (pairs_below n n) in
-    ap (λ x. codes "nodes " ++ decimal n ++ codes "\n" ++ x ++ text_below n (row_text c net) ++ codes ".\n") (names_line-printed n net.names l)
+    ap (λ x. codes "nodes " ++ decimal n ++ codes "\n" ++ x ++ text_below n (row_text c net) ++ codes ".\n") (names_text-printed n net.names l)
     ∙ ap (λ x. codes "nodes " ++ decimal n ++ codes "\n" ++ printed (names_lines net.names) ++ x ++ codes ".\n") (text_below-rows c net n ∙ edges-printed c net (pairs_below n n))
     ∙ text-shape (decimal n) (printed (names_lines net.names)) (printed edges)
     ∙ sym (ap (λ x. printed_line (codes "nodes" ∷ decimal n ∷ []) ++ x)

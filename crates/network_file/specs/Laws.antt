@@ -1,12 +1,14 @@
--- The canonical text of a network is read as that network.
-use Rattle.std.specs.Prelude.{◌≡◌, ℕ, true, List}
+-- Laws of network files.
+use Rattle.std.specs.Prelude.{◌≡◌, ◌≢◌, ℕ, true, List}
 use Rattle.std.specs.List.{list_all}
 use Rattle.calculus_table.specs.Calculus.{NamedAlgebra, IsNamedCalculus}
 use Rattle.calculus_table.specs.Composition.{full_of}
 use Rattle.network_words.specs.Network.{Network, IsNetwork, IsShaped}
 use Rattle.qsr_lex.specs.Names.{is_name}
 use Rattle.network_file.specs.NetworkText.{network_text}
-use Rattle.network_file.specs.NetworkFile.{IsFileOf}
+use Rattle.network_file.specs.NetworkFile.{IsFileOf, FailsWith, read_network}
+use Rattle.network_file.specs.declared.fault.FileFault.{FileFault}
+use Rattle.network_file.specs.declared.fault.FileFault.TheVariants.{Memory}
 
 -- a network over a calculus, whose names may stand in a file
 pub record IsPrintable (c : NamedAlgebra) (net : Network) : Type 0 where
@@ -24,3 +26,13 @@ PrintedIsRead = (c : NamedAlgebra) (net : Network) → IsPrintable c net → IsF
 -- a text is the file of one network at most
 abbrev pub FileIsOfOne : Type 0
 FileIsOfOne = (c : NamedAlgebra) (bytes : List ℕ) (net other : Network) → IsFileOf c bytes net → IsFileOf c bytes other → net ≡ other
+
+-- a text has one fault at most, out of memory aside
+abbrev pub FileHasOneFault : Type 0
+FileHasOneFault = (c : NamedAlgebra) (bytes : List ℕ) (fault other : FileFault) → fault ≢ Memory → other ≢ Memory →
+    FailsWith (read_network c bytes) fault → FailsWith (read_network c bytes) other → fault ≡ other
+
+-- a network file has no fault but out of memory
+abbrev pub FileHasNoFault : Type 0
+FileHasNoFault = (c : NamedAlgebra) (bytes : List ℕ) (net : Network) (fault : FileFault) → IsFileOf c bytes net →
+    FailsWith (read_network c bytes) fault → fault ≢ Memory → ⊥
