@@ -13,12 +13,14 @@ pub(crate) fn is_blank(byte: u8) -> bool
 pub(crate) fn is_plain(byte: u8) -> bool
     ensures { result ≡ is_plain byte }
 {
-    byte == b'\t' || (b' ' <= byte && byte <= b'~' && byte != b'#')
+    // Most bytes pass the first test.
+    (b'$' <= byte && byte <= b'~') || matches!(byte, b'\t' | b' '..=b'"')
 }
 
 /// Whether a byte may be part of a word.
 pub(crate) fn is_word_byte(byte: u8) -> bool
     ensures { result ≡ is_word_byte byte }
 {
-    !matches!(byte, b' ' | b'\t' | b'(' | b')' | b',' | b':' | b'#')
+    // Letters pass the first test.
+    byte > b':' || !matches!(byte, b' ' | b'\t' | b'(' | b')' | b',' | b':' | b'#')
 }

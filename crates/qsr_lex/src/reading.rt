@@ -169,8 +169,9 @@ struct FirstToken<'a> {
     after: &'a [u8],
 }
 
-/// The first token, where there is one.
-#[inline]
+/// The first token, where there is one. Inlined, so that a caller who asks for one kind of token reads
+/// no other to its end.
+#[inline(always)]
 fn first_token(part: &[u8]) -> Option<FirstToken<'_>>
     ensures { MatchOption result (lexemes part.now ≡ []) (λ first.
         lexemes part.now ≡ lexeme_with first.token.kind first.token.text.now ∷ lexemes first.after.now) }
@@ -188,7 +189,7 @@ fn first_token(part: &[u8]) -> Option<FirstToken<'_>>
 }
 
 /// What stands after the blanks at the front.
-#[inline]
+#[inline(always)]
 fn from_token(part: &[u8]) -> &[u8]
     ensures tokens { lexemes result.now ≡ lexemes part.now }
     ensures first { starts_with_blank result.now ≡ false }

@@ -168,7 +168,7 @@ fn add_token(
 }
 
 /// How many bytes after the first one belong to the token at the front.
-#[inline]
+#[inline(always)]
 pub(crate) fn tail_len(bytes: &[u8]) -> usize
     ensures value { result ≡ tail_len bytes.now }
     ensures bound { 0 < length bytes.now → result < length bytes.now }
@@ -188,7 +188,7 @@ pub(crate) fn tail_len(bytes: &[u8]) -> usize
 }
 
 /// What the token at the front is.
-#[inline]
+#[inline(always)]
 pub(crate) fn kind_of(bytes: &[u8]) -> TokenKind
     ensures { result ≡ kind_of bytes.now }
 {
