@@ -102,6 +102,7 @@ fn are_names(names: &[String]) -> bool
 }
 
 /// The place of the hint for a name.
+#[inline(always)]
 fn hint_of(name: &[u8]) -> usize
     ensures { result < HINTS }
 {

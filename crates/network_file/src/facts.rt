@@ -103,6 +103,7 @@ fn is_named(net: &Net) -> bool
 }
 
 /// The node that a token stands for.
+#[inline(always)]
 fn node_of(net: &Net, line: u32, token: NodeToken<'_>) -> Result<u32, FileFault>
     ensures value { result ≡ node_of net.now.nodes net.now.names line (node_read token.entry) }
     ensures below { IfOk result (λ node. node < net.now.nodes) }

@@ -61,6 +61,7 @@ pub(crate) fn names_form<'a>(
 }
 
 /// What a word stands for as a node: a number, or a name if the nodes have names.
+#[inline(always)]
 fn node_token<'a>(named: bool, word: &'a [u8]) -> Option<NodeToken<'a>>
     ensures { MatchOption result (node_token named word.now ≡ None)
         (λ token. node_token named word.now ≡ Some (node_read token)) }
@@ -73,6 +74,7 @@ fn node_token<'a>(named: bool, word: &'a [u8]) -> Option<NodeToken<'a>>
 }
 
 /// Returns the node's token that comes next, and moves past it.
+#[inline(always)]
 fn node_at<'a>(named: bool, tokens: &mut TokenReader<'a>) -> Option<NodeToken<'a>>
     ensures { MatchOption result (node_at named tokens.old ≡ None)
         (λ token. node_at named tokens.old ≡ Some (node_read token, tokens.new)) }

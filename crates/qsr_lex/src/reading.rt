@@ -51,7 +51,7 @@ impl<'a> TokenReader<'a> {
     }
 
     /// Returns the next token and moves past it.
-    #[inline]
+    #[inline(always)]
     pub fn next(&mut self) -> Option<LineToken<'a>>
         ensures { MatchOption result ((self.old ≡ []) × (self.new ≡ []))
             (λ token. self.old ≡ lexeme_with token.kind token.text.now ∷ self.new) }
@@ -81,7 +81,7 @@ impl<'a> TokenReader<'a> {
     }
 
     /// Returns the next token's text and moves past it, if it is a word.
-    #[inline]
+    #[inline(always)]
     pub fn word(&mut self) -> Option<&'a [u8]>
         ensures { MatchOption result ((word_at self.old ≡ None) × (self.new ≡ self.old))
             (λ text. word_at self.old ≡ Some (text.now, self.new)) }
@@ -96,7 +96,7 @@ impl<'a> TokenReader<'a> {
     }
 
     /// Returns the next token's text and moves past it, if it is a name.
-    #[inline]
+    #[inline(always)]
     pub fn name(&mut self) -> Option<&'a [u8]>
         ensures found { MatchOption result ((name_at self.old ≡ None) × (self.new ≡ self.old))
             (λ text. name_at self.old ≡ Some (text.now, self.new)) }
@@ -126,7 +126,7 @@ impl<'a> TokenReader<'a> {
     }
 
     /// Moves past the next token if it is of this kind, and returns whether it is.
-    #[inline]
+    #[inline(always)]
     pub fn take_kind(&mut self, kind: TokenKind) -> bool
         ensures { MatchBool result (after_kind kind self.old ≡ Some self.new)
             ((after_kind kind self.old ≡ None) × (self.new ≡ self.old)) }
