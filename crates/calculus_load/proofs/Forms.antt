@@ -1,7 +1,7 @@
 -- A line with two colons after its first name, and one with a single colon.
 use Rattle.std.proofs.Common.{◌≡◌, ℕ, cond, List, [], ◌∷◌, Option, Some, None, refl, sym, ap, ◌∙◌}
 use Rattle.qsr_lex.specs.Lexemes.{Lexeme}
-use Rattle.qsr_lex.specs.Words.{◌>>=◌, name_at, after_kind, is_same_kind}
+use Rattle.qsr_lex.specs.LineTokens.{◌>>=◌, name_at, after_kind, is_same_kind}
 use Rattle.qsr_lex.specs.declared.tokens.TokenKind.{TokenKind}
 use Rattle.qsr_lex.specs.declared.tokens.TokenKind.TheVariants.{Word, Open, Close, Comma, Colon, Colons, Stop}
 use Rattle.calculus_load.specs.Statements.{after_colons, converse_line, after_colon, entry_line, or_else, statement_line}

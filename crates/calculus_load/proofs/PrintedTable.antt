@@ -3,7 +3,7 @@ use Rattle.std.proofs.Common.{◌≡◌, ℕ, zero, suc, List, [], ◌∷◌, �
 use Rattle.qsr_lex.specs.Printed.{spaced, printed_line, printed, text_below, word_text}
 use Rattle.calculus_table.specs.Algebra.{converse_at, entry_at}
 use Rattle.calculus_table.specs.Calculus.{NamedAlgebra}
-use Rattle.named_sets.specs.Written.{set_words}
+use Rattle.named_sets.specs.Written.{set_tokens}
 use Rattle.qsr_lex.proofs.WrittenTexts.{spaces, spaces-append, spaced-more, spaced-close}
 use Rattle.named_sets.proofs.WrittenSets.{set_text-spaced}
 use Rattle.calculus_load.specs.TableText.{name_at, names_text, identity_text, converse_text, entry_text, row_text, table_text}
@@ -13,8 +13,8 @@ unfoldable pub listed : {A : Type 0} → ℕ → (ℕ → A) → List A
 listed zero f = []
 listed (suc n) f = listed n f ++ (f n ∷ [])
 
-abbrev pub names_words : NamedAlgebra → List (List ℕ)
-names_words c = codes "names" ∷ codes "(" ∷ (listed c.algebra.size (name_at c) ++ (codes ")" ∷ []))
+abbrev pub names_tokens_of : NamedAlgebra → List (List ℕ)
+names_tokens_of c = codes "names" ∷ codes "(" ∷ (listed c.algebra.size (name_at c) ++ (codes ")" ∷ []))
 
 abbrev pub identity_words : NamedAlgebra → List (List ℕ)
 identity_words c = codes "identity" ∷ name_at c c.algebra.identity ∷ []
@@ -23,7 +23,7 @@ abbrev pub converse_words : NamedAlgebra → ℕ → List (List ℕ)
 converse_words c r = name_at c r ∷ codes "::" ∷ name_at c (converse_at c.algebra r) ∷ []
 
 abbrev pub entry_words : NamedAlgebra → ℕ → ℕ → List (List ℕ)
-entry_words c r s = name_at c r ∷ codes ":" ∷ name_at c s ∷ codes "::" ∷ set_words c (entry_at c.algebra r s)
+entry_words c r s = name_at c r ∷ codes ":" ∷ name_at c s ∷ codes "::" ∷ set_tokens c (entry_at c.algebra r s)
 
 unfoldable pub row_lines : NamedAlgebra → ℕ → List (List (List ℕ))
 row_lines c zero = []
@@ -34,7 +34,7 @@ end_lines = (codes "." ∷ []) ∷ []
 
 abbrev pub table_lines : NamedAlgebra → List (List (List ℕ))
 table_lines c =
-    names_words c ∷ identity_words c ∷ (listed c.algebra.size (converse_words c) ++ (row_lines c c.algebra.size ++ end_lines))
+    names_tokens_of c ∷ identity_words c ∷ (listed c.algebra.size (converse_words c) ++ (row_lines c c.algebra.size ++ end_lines))
 
 printed-append : (xs ys : List (List (List ℕ))) → printed (xs ++ ys) ≡ printed xs ++ printed ys
 printed-append [] ys = refl
@@ -54,7 +54,7 @@ lines-printed (suc n) text words h =
     ap (λ t. t ++ text n) (lines-printed n text words h) ∙ ap (λ t. printed (listed n words) ++ t) (h n ∙ sym (append-nil (printed_line (words n))))
     ∙ sym (printed-append (listed n words) (words n ∷ []))
 
-names-line : (c : NamedAlgebra) → names_text c ≡ printed_line (names_words c)
+names-line : (c : NamedAlgebra) → names_text c ≡ printed_line (names_tokens_of c)
 names-line c =
     let ws = listed c.algebra.size (name_at c) in
     ap (λ t. codes "names ( " ++ t ++ codes ")\n") (names-spaces c c.algebra.size)
@@ -72,7 +72,7 @@ entry-line : (c : NamedAlgebra) (r s : ℕ) → entry_text c r s ≡ printed_lin
 entry-line c r s =
     let a = entry_at c.algebra r s in
     ap (λ t. name_at c r ++ codes " : " ++ name_at c s ++ codes " :: " ++ t ++ codes "\n") (set_text-spaced c a)
-    ∙ last (name_at c r) (name_at c s) (spaced (set_words c a))
+    ∙ last (name_at c r) (name_at c s) (spaced (set_tokens c a))
 
 rows-printed : (c : NamedAlgebra) (n : ℕ) → text_below n (row_text c) ≡ printed (row_lines c n)
 unfolding text_below row_lines
@@ -88,7 +88,7 @@ all a b c d = simp append_assoc
 pub table_text-printed : (c : NamedAlgebra) → table_text c ≡ printed (table_lines c)
 table_text-printed c =
     let n = c.algebra.size in
-    let names = printed_line (names_words c) in
+    let names = printed_line (names_tokens_of c) in
     let id = identity_text c in
     let cs = printed (listed n (converse_words c)) in
     let rs = printed (row_lines c n) in

@@ -4,7 +4,7 @@ use Rattle.std.specs.List.{list_all}
 use Rattle.std.proofs.lemmas.Nat.{mul-add-lt}
 use Rattle.qsr_lex.specs.Lexemes.{Lexeme}
 use Rattle.qsr_lex.specs.Names.{is_name}
-use Rattle.qsr_lex.specs.Words.{name_at, names_at, after_kind, is_name_token, is_same_kind, ◌>>=◌, at_end, ends_there, is_end_line}
+use Rattle.qsr_lex.specs.LineTokens.{name_at, names_at, after_kind, is_name_token, is_same_kind, ◌>>=◌, at_end, ends_there, is_end_line}
 use Rattle.qsr_lex.specs.TextLines.{readable_text}
 use Rattle.qsr_lex.specs.TokenLines.{TokenLine, add_line, token_line, token_lines}
 use Rattle.qsr_lex.specs.Printed.{printed, is_token_text, are_tokens, lexeme_from, printed_token_lines, IsReadAgain}
@@ -30,7 +30,7 @@ use Rattle.calculus_load.specs.declared.statement.Statement.TheVariants.{Convers
 use Rattle.calculus_load.specs.declared.fault.LoadFault.{LoadFault}
 use Rattle.calculus_load.specs.declared.fault.LoadFault.TheVariants.{Twice}
 use Rattle.calculus_load.proofs.Faults.{complete-given}
-use Rattle.calculus_load.proofs.PrintedTable.{listed, names_words, identity_words, converse_words, entry_words, row_lines, end_lines, table_lines, table_text-printed}
+use Rattle.calculus_load.proofs.PrintedTable.{listed, names_tokens_of, identity_words, converse_words, entry_words, row_lines, end_lines, table_lines, table_text-printed}
 use Rattle.calculus_load.proofs.NamesAgain.{HasNames, size-is, name_at-is_name, listed-names, place_of-name, allowed_names-again}
 
 -- ---- each text is one token
@@ -278,7 +278,7 @@ some-names : (names : List (List ℕ)) → 0 < length names → some_names names
 some-names [] h = absurd (omega arith)
 some-names (x ∷ xs) h = refl
 
-names-again : (c : NamedAlgebra) (line : ℕ) → HasNames c → named line (map lexeme_from (names_words c)) ≡ Ok c.names
+names-again : (c : NamedAlgebra) (line : ℕ) → HasNames c → named line (map lexeme_from (names_tokens_of c)) ≡ Ok c.names
 names-again c line h =
     let ns = listed c.algebra.size (texts.name_at c) in
     let same = listed-names c h in

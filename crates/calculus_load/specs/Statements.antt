@@ -1,7 +1,7 @@
 -- The forms of the lines of a table file.
 use Rattle.std.specs.Prelude.{ℕ, ◌-◌, ◌^◌, ◌<◌, List, [], ◌∷◌, Option, Some, None, IfSome, codes}
 use Rattle.qsr_lex.specs.Lexemes.{Lexeme}
-use Rattle.qsr_lex.specs.Words.{name_at, names_at, after_kind, after_word, ◌>>=◌, at_end}
+use Rattle.qsr_lex.specs.LineTokens.{name_at, names_at, after_kind, after_word, ◌>>=◌, at_end}
 use Rattle.qsr_lex.specs.declared.tokens.TokenKind.TheVariants.{Colon, Colons}
 use Rattle.calculus_table.specs.Rel.{IsWithin}
 use Rattle.calculus_table.specs.Names.{place_of}

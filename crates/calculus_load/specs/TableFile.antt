@@ -3,7 +3,7 @@
 use Rattle.std.specs.Prelude.{◌≡◌, ℕ, ◌*◌, List, [], ◌∷◌, length, replicate, Bool, true, false, Option, Some, None, Result, Ok, Err, if◌then◌else◌}
 use Rattle.qsr_lex.specs.Lexemes.{Lexeme}
 use Rattle.qsr_lex.specs.TokenLines.{TokenLine}
-use Rattle.qsr_lex.specs.Words.{is_end_line}
+use Rattle.qsr_lex.specs.LineTokens.{is_end_line}
 use Rattle.calculus_table.specs.Calculus.{NamedAlgebra}
 use Rattle.calculus_table.specs.TableFault.{IsFaultOf}
 use Rattle.calculus_load.specs.LinesToRead.{lines_to_read, end_place}

@@ -2,7 +2,7 @@
 ghost use Rattle.std.specs.Prelude.{◌≡◌, ◌+◌, ◌++◌, ◌<◌, ◌≤◌, unwrap_or, map, length, All, IfOk, IfErr, IfSome, MatchResult, Ok, Err, Some, true, false};
 ghost use Rattle.std.specs.String.{string_bytes};
 ghost use Rattle.qsr_lex.specs.Names.{is_name};
-ghost use Rattle.qsr_lex.specs.Words.{names_at, is_end_line};
+ghost use Rattle.qsr_lex.specs.LineTokens.{names_at, is_end_line};
 ghost use Rattle.qsr_lex.specs.Tokens.{AreApart};
 ghost use Rattle.qsr_lex.specs.TokenLines.{by_line, token_line};
 ghost use Rattle.calculus_load.specs.LinesToRead.{bad_lines, lines_to_read, end_place};
@@ -20,7 +20,7 @@ use crate::statement::Statement;
 use calculus_table::{Calculus, MAX_BASES, TableFault, place_of};
 use named_sets::set_of;
 use qsr_lex::{
-    LineReader, NamesStop, Readable, TextLine, TokenKind, WordReader, owned_names, readable,
+    LineReader, NamesFault, Readable, TextLine, TokenKind, TokenReader, owned_names, readable,
 };
 use std::alloc::Global;
 
@@ -28,7 +28,7 @@ use std::alloc::Global;
 fn names_here<'a>(
     alloc: Global,
     line: u32,
-    words: &mut WordReader<'a>,
+    words: &mut TokenReader<'a>,
 ) -> Result<Vec<&'a [u8]>, LoadFault>
     ensures ok { IfOk result (λ names. names_at words.old ≡ Some (map (λ name. name.now) names.items, words.new)) }
     ensures each { IfOk result (λ names. All (λ name. is_name name.now ≡ true) names.items) }
@@ -36,8 +36,8 @@ fn names_here<'a>(
 {
     match words.names(alloc) {
         Ok(names) => Ok(names),
-        Err(NamesStop::Form) => Err(LoadFault::Syntax { line }),
-        Err(NamesStop::Memory) => Err(LoadFault::Memory),
+        Err(NamesFault::Form) => Err(LoadFault::Syntax { line }),
+        Err(NamesFault::Memory) => Err(LoadFault::Memory),
     }
 }
 
@@ -45,7 +45,7 @@ fn names_here<'a>(
 fn names_line<'a>(
     alloc: Global,
     line: u32,
-    mut words: WordReader<'a>,
+    mut words: TokenReader<'a>,
 ) -> Result<Vec<&'a [u8]>, LoadFault>
     ensures ok { IfOk result (λ names. names_line words.entry ≡ Some (map (λ name. name.now) names.items)) }
     ensures each { IfOk result (λ names. All (λ name. is_name name.now ≡ true) names.items) }
@@ -78,7 +78,7 @@ fn allowed_names(alloc: Global, line: u32, names: &[&[u8]]) -> Result<Vec<String
 }
 
 /// The names of the base relations, from their line.
-fn named(alloc: Global, line: u32, words: WordReader) -> Result<Vec<String>, LoadFault>
+fn named(alloc: Global, line: u32, words: TokenReader) -> Result<Vec<String>, LoadFault>
     ensures ok { IfOk result (λ texts. named line words.entry ≡ Ok (map string_bytes texts.items)) }
     ensures few { IfOk result (λ texts. length texts.items ≤ MAX_BASES) }
     ensures fault { IfErr result (IsFaultIn (named line words.entry)) }
@@ -88,7 +88,7 @@ fn named(alloc: Global, line: u32, words: WordReader) -> Result<Vec<String>, Loa
 }
 
 /// The identity, from its line.
-fn identified(names: &[String], line: u32, mut words: WordReader) -> Result<u32, LoadFault>
+fn identified(names: &[String], line: u32, mut words: TokenReader) -> Result<u32, LoadFault>
     requires { length names.now ≤ MAX_BASES }
     ensures answer { MatchResult result
         (λ id. identified (map string_bytes names.now) line words.entry ≡ Ok id)
@@ -115,7 +115,7 @@ fn after_colons(
     names: &[String],
     line: u32,
     first: Option<u32>,
-    mut words: WordReader,
+    mut words: TokenReader,
 ) -> Result<Statement, LoadFault>
     requires few { length names.now ≤ MAX_BASES }
     requires below { IfSome first (λ r. r < length names.now) }
@@ -139,7 +139,7 @@ fn after_colon(
     names: &[String],
     line: u32,
     first: Option<u32>,
-    mut words: WordReader,
+    mut words: TokenReader,
 ) -> Result<Statement, LoadFault>
     requires few { length names.now ≤ MAX_BASES }
     requires below { IfSome first (λ r. r < length names.now) }
@@ -165,7 +165,7 @@ fn statement(
     alloc: Global,
     names: &[String],
     line: u32,
-    mut words: WordReader,
+    mut words: TokenReader,
 ) -> Result<Statement, LoadFault>
     requires { length names.now ≤ MAX_BASES }
     ensures ok { IfOk result (λ statement. statement_line (map string_bytes names.now) words.entry ≡ Some statement) }

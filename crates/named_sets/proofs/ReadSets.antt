@@ -1,9 +1,10 @@
 -- Sets that are read by the names of their members, and the names of a set's members.
-use Rattle.std.proofs.Common.{◌≡◌, ℕ, zero, suc, ◌+◌, ◌-◌, ◌^◌, ◌<◌, ◌≤◌, ◌==◌, Bool, true, false, cond, bit_or, List, [], ◌∷◌, ◌++◌, length, map, drop, get_or, slice_get, Option, Some, None, option_and_then, refl, sym, ◌∙◌, ap, subst, arith, add-one, ne_eqb}
+use Rattle.std.proofs.Common.{◌≡◌, ℕ, zero, suc, ◌+◌, ◌-◌, ◌^◌, ◌<◌, ◌≤◌, ◌==◌, Bool, true, false, cond, bit_or, List, [], ◌∷◌, ◌++◌, length, map, drop, get_or, slice_get, Option, Some, None, option_map, option_and_then, is_some, IfSome, ◌⊎◌, inl, inr, bytes_eq, refl, sym, ◌∙◌, ap, subst, arith, add-one, ne_eqb}
 use lib.Bits.{or_zero_r}
 use Rattle.std.specs.Int.{bit_at}
-use Rattle.std.proofs.lemmas.Bool.{eqb-true, eq-eqb, true≢false}
-use Rattle.std.proofs.lemmas.List.{drop_more}
+use Rattle.std.specs.List.{list_all}
+use Rattle.std.proofs.lemmas.Bool.{and_parts, eqb-true, eq-eqb, true≢false}
+use Rattle.std.proofs.lemmas.Slice.Eq.{bytes_eq-Decides}
 use Rattle.calculus_table.specs.Rel.{Has, IsWithin}
 use Rattle.calculus_table.specs.Algebra.{Algebra}
 use Rattle.calculus_table.specs.Composition.{full_of, union_below, if_has}
@@ -13,20 +14,68 @@ use Rattle.calculus_table.proofs.Sets.{IsWithin-antisym, IsWithin-union, Has-sin
 use Rattle.calculus_table.proofs.Compositions.{InUnion, union_below-member, Has-union_below, if_has-member, Has-if_has, single-member, full-member, Has-full}
 use Rattle.calculus_table.proofs.Singles.{single-within}
 use Rattle.calculus_table.proofs.PlacesOfNames.{place_of-found}
-use Rattle.named_sets.specs.Named.{set_from, set_of, name_of, members_below}
+use Rattle.qsr_lex.specs.Names.{is_name}
+use Rattle.qsr_lex.specs.Lexemes.{Lexeme, lexeme_with}
+use Rattle.qsr_lex.specs.LineTokens.{names_until_close}
+use Rattle.qsr_lex.specs.declared.tokens.TokenKind.TheVariants.{Word}
+use Rattle.named_sets.specs.Named.{set_from, set_of, with_member, name_of, members_below}
 
 -- ---- one name after another
 
-pub set_from-next : {A : Type 0} (v : A → List ℕ) (bases : List (List ℕ)) (set : ℕ) (base : Option ℕ) (xs : List A) (k : ℕ) (d : A) → k < length xs → base ≡ place_of (v (get_or xs k d)) bases →
-    set_from bases set (map v (drop k xs)) ≡ option_and_then (λ r. set_from bases (bit_or set (2 ^ r)) (map v (drop (k + 1) xs))) base
-set_from-next v bases set base xs k d below is =
-    ap (λ ys. set_from bases set (map v ys)) (drop_more xs k d below)
-    ∙ ap (λ b. option_and_then (λ r. set_from bases (bit_or set (2 ^ r)) (map v (drop (k + 1) xs))) b) (sym is)
+-- the names up to a closing bracket as further members of a set
+abbrev pub with_members : List (List ℕ) → Option ℕ → Option (List (List ℕ) × List Lexeme) → Option (Option ℕ × List Lexeme)
+with_members bases set found = option_map (λ f. (option_and_then (λ a. set_from bases a f.0) set, f.1)) found
+
+set_from-member : (bases names : List (List ℕ)) (set base : Option ℕ) →
+    option_and_then (λ a. option_and_then (λ r. set_from bases (bit_or a (2 ^ r)) names) base) set ≡ option_and_then (λ a. set_from bases a names) (with_member set base)
+set_from-member bases names None base = refl
+set_from-member bases names (Some a) None = refl
+set_from-member bases names (Some a) (Some r) = refl
+
+with_members-name : (bases : List (List ℕ)) (set : Option ℕ) (name : List ℕ) (found : Option (List (List ℕ) × List Lexeme)) →
+    with_members bases set (option_map (λ f. (name ∷ f.0, f.1)) found) ≡ with_members bases (with_member set (place_of name bases)) found
+with_members-name bases set name None = refl
+with_members-name bases set name (Some f) = ap (λ s. Some (s, f.1)) (set_from-member bases f.0 set (place_of name bases))
+
+pub with_members-word : (bases : List (List ℕ)) (set base now : Option ℕ) (word : List ℕ) (old new : List Lexeme) → old ≡ lexeme_with Word word ∷ new → is_name word ≡ true → base ≡ place_of word bases → now ≡ with_member set base →
+    with_members bases now (names_until_close new) ≡ with_members bases set (names_until_close old)
+with_members-word bases set base now word old new cut name place is =
+    ap (λ s. with_members bases s (names_until_close new)) (is ∙ ap (with_member set) place)
+    ∙ sym (ap (λ xs. with_members bases set (names_until_close xs)) cut
+    ∙ ap (λ b. with_members bases set (cond b (option_map (λ f. (word ∷ f.0, f.1)) (names_until_close new)) None)) name
+    ∙ with_members-name bases set word (names_until_close new))
 
 pub set-within : (n set r : ℕ) → IsWithin set (2 ^ n - 1) → r < n → IsWithin (bit_or set (2 ^ r)) (2 ^ n - 1)
 set-within n set r h below =
     let m : Algebra = record { size = n; identity = 0; converses = []; table = [] } in
     IsWithin-union set (2 ^ r) (2 ^ n - 1) h (single-within r (2 ^ n - 1) (Has-full m r below))
+
+pub with_member-within : (n : ℕ) (set base : Option ℕ) → IfSome set (λ a. IsWithin a (2 ^ n - 1)) → IfSome base (λ r. r < n) → IfSome (with_member set base) (λ a. IsWithin a (2 ^ n - 1))
+with_member-within n None base h k = tt
+with_member-within n (Some a) None h k = tt
+with_member-within n (Some a) (Some r) h k = set-within n a r h k
+
+-- ---- words that are names
+
+-- what a word's test says
+pub named-parts : (b : Bool) (base found : Option ℕ) → Some base ≡ cond b (Some found) None → (b ≡ true) × (base ≡ found)
+named-parts true base found h = let same : base ≡ found = cc in (refl, same)
+named-parts false base found h = cc
+
+there-parts : (b : Bool) (o : Option ℕ) → is_some (cond b (Some 0) (option_map suc o)) ≡ true → (b ≡ true) ⊎ (is_some o ≡ true)
+there-parts true o h = inl refl
+there-parts false (Some r) h = inr refl
+there-parts false None h = cc
+
+-- a word that stands among names is a name
+pub is_name-among : (names : List (List ℕ)) (word : List ℕ) → list_all is_name names ≡ true → is_some (place_of word names) ≡ true → is_name word ≡ true
+is_name-among [] word h k = cc
+is_name-among (x ∷ xs) word h k =
+    let parts = and_parts (is_name x) (list_all is_name xs) h in
+    elim (there-parts (bytes_eq x word) (place_of word xs) k) [
+      | inl here ↦ ap is_name (sym ((bytes_eq-Decides x word).0 here)) ∙ parts.0
+      | inr later ↦ is_name-among xs word parts.1 later
+    ]
 
 -- ---- the names of a set's members
 

@@ -10,7 +10,7 @@ use Rattle.qsr_lex.proofs.WrittenTexts.{spaces, spaces-append, spaced-more, spac
 use Rattle.qsr_lex.proofs.PrintedNames.{IsPrintedName-from_test}
 use Rattle.calculus_table.specs.Calculus.{NamedAlgebra}
 use Rattle.named_sets.specs.Named.{name_of, members_below}
-use Rattle.named_sets.specs.Written.{member_text, members, set_text, set_words, WrittenSetIsRead}
+use Rattle.named_sets.specs.Written.{member_text, members, set_text, set_tokens, WrittenSetIsRead}
 use Rattle.named_sets.proofs.ReadSets.{set_of-members}
 
 -- ---- the text of a set
@@ -27,7 +27,7 @@ text_below-members names a (suc r) =
     ∙ ap (λ x. spaces (members_below names a r) ++ x) (if_member (bit_at a r == 1) (name_of names r))
     ∙ sym (spaces-append (members_below names a r) (cond (bit_at a r == 1) (name_of names r ∷ []) []))
 
-pub set_text-spaced : (c : NamedAlgebra) (a : ℕ) → set_text c a ≡ spaced (set_words c a)
+pub set_text-spaced : (c : NamedAlgebra) (a : ℕ) → set_text c a ≡ spaced (set_tokens c a)
 set_text-spaced c a =
     ap (λ x. codes "( " ++ x ++ codes ")") (text_below-members c.names a c.algebra.size) ∙ ap (λ x. codes "( " ++ x) (sym (spaced-close (members c a)))
     ∙ sym (spaced-more (codes "(") (members c a) (codes ")"))

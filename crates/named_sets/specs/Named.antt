@@ -1,7 +1,13 @@
 -- Sets of base relations by the names of their members.
-use Rattle.std.specs.Prelude.{ℕ, suc, zero, ◌^◌, ◌==◌, List, [], ◌∷◌, ◌++◌, Option, Some, option_and_then, slice_get, unwrap_or, bit_or, if◌then◌else◌}
+use Rattle.std.specs.Prelude.{◌≡◌, ℕ, suc, zero, ◌^◌, ◌<◌, ◌≤◌, ◌==◌, Bool, true, List, [], ◌∷◌, ◌++◌, length, Option, Some, option_map, option_and_then, slice_get, unwrap_or, bit_or, if◌then◌else◌}
 use Rattle.std.specs.Int.{bit_at}
+use Rattle.std.specs.List.{list_all}
 use Rattle.calculus_table.specs.Names.{place_of}
+use Rattle.calculus_table.specs.Calculus.{AreDistinct}
+use Rattle.calculus_table.specs.declared.TheConstants.{MAX_BASES}
+use Rattle.qsr_lex.specs.Names.{is_name}
+use Rattle.qsr_lex.specs.Lexemes.{Lexeme}
+use Rattle.qsr_lex.specs.LineTokens.{names_at}
 
 -- the set of the base relations with these names and the members of `set`; none where a name is that of no base relation
 abbrev pub set_from : List (List ℕ) → ℕ → List (List ℕ) → Option ℕ
@@ -11,6 +17,25 @@ set_from bases set (name ∷ names) = option_and_then (λ r. set_from bases (bit
 -- the set of the base relations with these names
 abbrev pub set_of : List (List ℕ) → List (List ℕ) → Option ℕ
 set_of bases names = set_from bases 0 names
+
+-- a set and one member more, where both are known
+abbrev pub with_member : Option ℕ → Option ℕ → Option ℕ
+with_member set base = option_and_then (λ a. option_map (λ r. bit_or a (2 ^ r)) base) set
+
+-- names in brackets at the front: the set of the base relations with these names, and what stands after them
+abbrev pub set_at : List (List ℕ) → List Lexeme → Option (Option ℕ × List Lexeme)
+set_at bases tokens = option_map (λ found. (set_of bases found.0, found.1)) (names_at tokens)
+
+-- the names of base relations: not too many, no two the same, and where it is said so, names that may stand in a file
+pub record AreBaseNames (bases : List (List ℕ)) (are_names : Bool) : Type 0 where
+  pub few : length bases ≤ MAX_BASES
+  pub distinct : AreDistinct bases
+  pub names : are_names ≡ true → list_all is_name bases ≡ true
+
+-- the name stands at this place
+pub record IsAt (names : List (List ℕ)) (place : ℕ) (name : List ℕ) : Type 0 where
+  pub below : place < length names
+  pub same : slice_get names place ≡ Some name
 
 -- the name of the base relation r
 abbrev pub name_of : List (List ℕ) → ℕ → List ℕ

@@ -15,17 +15,21 @@ member_text names a r = if bit_at a r == 1 then word_text names r else []
 abbrev pub set_text : NamedAlgebra → ℕ → List ℕ
 set_text c a = codes "( " ++ text_below c.algebra.size (member_text c.names a) ++ codes ")"
 
+-- a set and an LF
+abbrev pub set_line : NamedAlgebra → ℕ → List ℕ
+set_line c a = set_text c a ++ codes "\n"
+
 -- the names of the members of a
 abbrev pub members : NamedAlgebra → ℕ → List (List ℕ)
 members c a = members_below c.names a c.algebra.size
 
 -- the tokens of a set: the names of its members in brackets
-abbrev pub set_words : NamedAlgebra → ℕ → List (List ℕ)
-set_words c a = codes "(" ∷ members c a ++ codes ")" ∷ []
+abbrev pub set_tokens : NamedAlgebra → ℕ → List (List ℕ)
+set_tokens c a = codes "(" ∷ members c a ++ codes ")" ∷ []
 
 -- the text of a set is its tokens with one space between, and the names among them are those of the set
 pub record IsWrittenSet (c : NamedAlgebra) (a : ℕ) : Type 0 where
-  pub text : set_text c a ≡ spaced (set_words c a)
+  pub text : set_text c a ≡ spaced (set_tokens c a)
   pub set : set_of c.names (members c a) ≡ Some a
 
 abbrev pub WrittenSetIsRead : Type 0

@@ -1,21 +1,41 @@
-ghost use Rattle.std.specs.Prelude.{◌≡◌, ◌-◌, ◌^◌, ◌≤◌, map, length, IfSome};
-ghost use Rattle.std.specs.String.{string_bytes};
+//! Sets of base relations, read by the names of their members.
+//!
+//! A set is written `(`, then names, then `)`. Its tokens are taken one after another, and each name is looked up at once, so
+//! no list of names is made. A name that no base relation has makes the set unknown, but the names after it are still read,
+//! since a fault of form counts before an unknown name.
+ghost use Rattle.std.specs.Prelude.{◌≡◌, ◌-◌, ◌^◌, ◌<◌, length, IfSome, None, Some, MatchOption};
 ghost use Rattle.calculus_table.specs.Rel.{IsWithin};
-ghost use Rattle.calculus_table.specs.declared.TheConstants.{MAX_BASES};
-ghost use Rattle.named_sets.specs.Named.{set_of};
+ghost use Rattle.named_sets.specs.Named.{set_at, with_member};
 
-use calculus_table::{Rel, place_of};
+use crate::base_names::BaseNames;
+use calculus_table::Rel;
+use qsr_lex::{TokenKind, TokenReader};
 
-/// The set of the base relations with these names among `bases`, unless one is the name of none.
-pub fn set_of(bases: &[String], names: &[&[u8]]) -> Option<Rel>
-    requires { length bases.now ≤ MAX_BASES }
-    ensures value { result ≡ set_of (map string_bytes bases.now) (map (λ name. name.now) names.now) }
-    ensures within { IfSome result (λ set. IsWithin set (2 ^ length bases.now - 1)) }
+/// Returns the set of the names in brackets that come next, and moves past them. The set is none inside where one of them
+/// is the name of no base relation. Without names in brackets there is none, and the reader stands somewhere in the line.
+pub fn read_set(tokens: &mut TokenReader<'_>, bases: &BaseNames<'_>) -> Option<Option<Rel>>
+    ensures value { MatchOption result (set_at bases.now tokens.old ≡ None)
+        (λ set. set_at bases.now tokens.old ≡ Some (set, tokens.new)) }
+    ensures within { IfSome result (λ set. IfSome set (λ a. IsWithin a (2 ^ length bases.now - 1))) }
 {
-    let mut set = Rel::EMPTY;
-    for name in names {
-        let r = place_of(bases, name)?;
-        set = set.union(Rel::single(r));
+    if !tokens.take_kind(TokenKind::Open) {
+        return None;
     }
-    Some(set)
+    let mut set = Some(Rel::EMPTY);
+    while let Some(token) = tokens.next() {
+        match token.kind {
+            TokenKind::Close => return Some(set),
+            TokenKind::Word => set = with_member(set, bases.base_of(token.text)?),
+            _ => return None,
+        }
+    }
+    None
+}
+
+/// A set and one member more, where both are known.
+fn with_member(set: Option<Rel>, base: Option<u32>) -> Option<Rel>
+    requires { IfSome base (λ r. r < 64) }
+    ensures { result ≡ with_member set base }
+{
+    Some(set?.union(Rel::single(base?)))
 }

@@ -1,5 +1,6 @@
 pub mod Texts
 pub mod NamesLine
 pub mod FactLines
+pub mod WholeFiles
 pub mod PrintedLines
 pub mod ReadAgain

@@ -1,5 +1,5 @@
 -- The line of names.
-use Rattle.std.proofs.Common.{◌≡◌, ℕ, zero, suc, ◌<◌, Bool, true, false, cond, ◌||◌, List, [], ◌∷◌, length, refl, sym, ◌∙◌, ap, subst, arith, slice_get, Option, Some, None, Ok, Err, option_map, is_some, bytes_eq}
+use Rattle.std.proofs.Common.{◌≡◌, ℕ, zero, suc, ◌<◌, Bool, true, false, cond, ◌||◌, List, [], ◌∷◌, length, refl, sym, ◌∙◌, ap, subst, arith, slice_get, Option, Some, None, Ok, Err, option_map, is_some, bytes_eq, codes}
 use Rattle.std.specs.Option.{ok_or}
 use Rattle.std.proofs.lemmas.Option.{same_Some, slice_get_within}
 use Rattle.std.proofs.lemmas.Slice.Eq.{bytes_eq-Decides}
@@ -10,13 +10,12 @@ use Rattle.network_words.specs.Network.{Network}
 use Rattle.network_words.proofs.NetsOfFacts.{IsNetworkOfFacts-none}
 use Rattle.std.specs.Prelude.{replicate}
 use Rattle.qsr_lex.specs.Lexemes.{Lexeme}
-use Rattle.qsr_lex.specs.TextLines.{bad_line, line_count, readable_text}
-use Rattle.qsr_lex.specs.TokenLines.{TokenLine, token_line, token_lines}
-use Rattle.qsr_lex.proofs.CleanLines.{readable_text-all}
-use Rattle.network_file.specs.declared.text_end.TextEnd.{TextEnd}
-use Rattle.network_file.specs.LineForms.{names_form, after_names}
+use Rattle.qsr_lex.specs.TokenLines.{TokenLine, token_line}
+use Rattle.line_files.specs.FileText.{line_of}
+use Rattle.line_files.specs.Steps.{◌>>=◌}
+use Rattle.network_file.specs.LineForms.{names_form}
 use Rattle.calculus_table.specs.Names.{place_of}
-use Rattle.network_file.specs.NetworkFile.{◌>>=◌, has_twice, names_once, names_here, names_line, end_at, read_lines, read_network, IsNetworkOf}
+use Rattle.network_file.specs.NetworkFile.{has_twice, names_once, names_here, names_line, IsNetworkOfContents}
 use Rattle.network_file.specs.declared.fault.FileFault.TheVariants.{Syntax, NameTwice}
 use Rattle.calculus_table.proofs.PlacesOfNames.{place_of-none}
 
@@ -63,38 +62,25 @@ has_twice-repeat names k f = twice-at names f.here.earlier k f.here.is_earlier f
 
 -- ---- the line
 
-pub names_line-read : (n line : ℕ) (lines after : List TokenLine) (words rest : List Lexeme) (names : List (List ℕ)) → lines ≡ token_line line words ∷ after →
-    after_names words ≡ Some rest → names_form n rest ≡ Some names → has_twice names ≡ false → names_line n lines ≡ Ok (names, after)
-names_line-read n line lines after words rest names e b f h =
-    ap (names_line n) e
-    ∙ ap (names_here n (token_line line words) after) b
+pub names_line-read : (n line : ℕ) (lines after : List TokenLine) (rest : List Lexeme) (names : List (List ℕ)) → line_of (codes "names") lines ≡ Some (token_line line rest, after) →
+    names_form n rest ≡ Some names → has_twice names ≡ false → names_line n lines ≡ Ok (names, after)
+names_line-read n line lines after rest names e f h =
+    ap (names_here n lines) e
     ∙ ap (λ o. ok_or o (Syntax line) >>= λ said. names_once line said >>= λ ns. Ok (ns, after)) f
     ∙ ap (λ t. cond t (Err (NameTwice line)) (Ok names) >>= λ ns. Ok (ns, after)) h
 
-pub names_line-twice : (n line : ℕ) (lines after : List TokenLine) (words rest : List Lexeme) (names : List (List ℕ)) → lines ≡ token_line line words ∷ after →
-    after_names words ≡ Some rest → names_form n rest ≡ Some names → has_twice names ≡ true → names_line n lines ≡ Err (NameTwice line)
-names_line-twice n line lines after words rest names e b f h =
-    ap (names_line n) e
-    ∙ ap (names_here n (token_line line words) after) b
+pub names_line-twice : (n line : ℕ) (lines after : List TokenLine) (rest : List Lexeme) (names : List (List ℕ)) → line_of (codes "names") lines ≡ Some (token_line line rest, after) →
+    names_form n rest ≡ Some names → has_twice names ≡ true → names_line n lines ≡ Err (NameTwice line)
+names_line-twice n line lines after rest names e f h =
+    ap (names_here n lines) e
     ∙ ap (λ o. ok_or o (Syntax line) >>= λ said. names_once line said >>= λ ns. Ok (ns, after)) f
     ∙ ap (λ t. cond t (Err (NameTwice line)) (Ok names) >>= λ ns. Ok (ns, after)) h
 
 -- ---- a network without names and facts
 
 pub fresh_network : (c : NamedAlgebra) (n : ℕ) (net : Network) → net ≡ record { nodes = n; full = full_of c.algebra; words = replicate (edge_count n) (full_of c.algebra); names = [] } →
-    IsNetworkOf c (record { nodes = net.nodes; names = []; facts = [] }) net
+    IsNetworkOfContents c (record { nodes = net.nodes; names = []; facts = [] }) net
 fresh_network c n net e =
     let made : Network = record { nodes = n; full = full_of c.algebra; words = replicate (edge_count n) (full_of c.algebra); names = [] } in
-    let P : Network → Type 0 = λ w. IsNetworkOf c (record { nodes = w.nodes; names = []; facts = [] }) w in
+    let P : Network → Type 0 = λ w. IsNetworkOfContents c (record { nodes = w.nodes; names = []; facts = [] }) w in
     subst P (sym e) (record { nodes = refl; full = refl; names = refl; words = IsNetworkOfFacts-none c.algebra n })
-
--- ---- what stands after the lines that can be read
-
-end_is : (bytes : List ℕ) (bad : Option ℕ) (count : ℕ) → bad ≡ bad_line bytes → count ≡ line_count (readable_text bytes) → end_at bad count ≡ end_at (bad_line bytes) (line_count bytes)
-end_is bytes None count b n = ap (end_at None) (n ∙ ap line_count (readable_text-all bytes (sym b))) ∙ ap (λ x. end_at x (line_count bytes)) b
-end_is bytes (Some k) count b n = ap (λ x. end_at x (line_count bytes)) b
-
-pub reads_text : (c : NamedAlgebra) (bytes : List ℕ) (bad : Option ℕ) (count : ℕ) (end : TextEnd) (lines : List TokenLine) → end ≡ end_at bad count → bad ≡ bad_line bytes → count ≡ line_count (readable_text bytes) →
-    lines ≡ token_lines (readable_text bytes) → read_lines c end lines ≡ read_network c bytes
-reads_text c bytes bad count end lines e b n l =
-    ap (λ x. read_lines c x lines) (e ∙ end_is bytes bad count b n) ∙ ap (read_lines c (end_at (bad_line bytes) (line_count bytes))) l

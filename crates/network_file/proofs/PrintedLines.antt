@@ -12,7 +12,7 @@ use Rattle.network_words.specs.declared.TheConstants.{MAX_NODES}
 use Rattle.qsr_lex.specs.Names.{is_name}
 use Rattle.qsr_lex.specs.Printed.{is_token_text, are_tokens, spaced, printed_line, printed, text_below, word_text}
 use Rattle.qsr_lex.proofs.PrintedNumbers.{IsPrintedNumber-below}
-use Rattle.named_sets.specs.Written.{members, set_words}
+use Rattle.named_sets.specs.Written.{members, set_tokens}
 use Rattle.qsr_lex.proofs.WrittenTexts.{spaces, text_below-names, spaced-more, spaced-close}
 use Rattle.named_sets.proofs.WrittenSets.{set_text-spaced, members-names, closed-tokens}
 use Rattle.network_file.specs.NetworkText.{edge_line, later_line, row_text, network_text}
@@ -29,26 +29,26 @@ pairs_below n (suc i) = pairs_below n i ++ pairs_row i n
 
 -- ---- the lines
 
-abbrev pub edge_words : NamedAlgebra → Network → ℕ × ℕ → List (List ℕ)
-edge_words c net p = decimal p.0 ∷ decimal p.1 ∷ set_words c (slice_index net.words (edge_at net.nodes p.0 p.1))
+abbrev pub edge_tokens_of : NamedAlgebra → Network → ℕ × ℕ → List (List ℕ)
+edge_tokens_of c net p = decimal p.0 ∷ decimal p.1 ∷ set_tokens c (slice_index net.words (edge_at net.nodes p.0 p.1))
 
-abbrev pub names_words : List (List ℕ) → List (List ℕ)
-names_words names = codes "names" ∷ (40 ∷ []) ∷ (names ++ (41 ∷ []) ∷ [])
+abbrev pub names_tokens_of : List (List ℕ) → List (List ℕ)
+names_tokens_of names = codes "names" ∷ (40 ∷ []) ∷ (names ++ (41 ∷ []) ∷ [])
 
 abbrev pub names_lines : List (List ℕ) → List (List (List ℕ))
 names_lines [] = []
-names_lines (x ∷ xs) = names_words (x ∷ xs) ∷ []
+names_lines (x ∷ xs) = names_tokens_of (x ∷ xs) ∷ []
 
 abbrev pub file_lines : NamedAlgebra → Network → List (ℕ × ℕ) → List (List (List ℕ))
-file_lines c net ps = (codes "nodes" ∷ decimal net.nodes ∷ []) ∷ (names_lines net.names ++ (map (edge_words c net) ps ++ ((46 ∷ []) ∷ []) ∷ []))
+file_lines c net ps = (codes "nodes" ∷ decimal net.nodes ∷ []) ∷ (names_lines net.names ++ (map (edge_tokens_of c net) ps ++ ((46 ∷ []) ∷ []) ∷ []))
 
-edge_line-printed : (c : NamedAlgebra) (net : Network) (p : ℕ × ℕ) → edge_line c net p.0 p.1 ≡ printed_line (edge_words c net p)
+edge_line-printed : (c : NamedAlgebra) (net : Network) (p : ℕ × ℕ) → edge_line c net p.0 p.1 ≡ printed_line (edge_tokens_of c net p)
 edge_line-printed c net p =
     let a = slice_index net.words (edge_at net.nodes p.0 p.1) in
-    ap (λ x. decimal p.0 ++ codes " " ++ decimal p.1 ++ codes " " ++ x ++ codes "\n") (set_text-spaced c a)
-    ∙ shape (decimal p.0) (decimal p.1) (spaced (set_words c a))
+    ap (λ x. decimal p.0 ++ codes " " ++ decimal p.1 ++ codes " " ++ (x ++ codes "\n")) (set_text-spaced c a)
+    ∙ shape (decimal p.0) (decimal p.1) (spaced (set_tokens c a))
   where
-    shape : (i j x : List ℕ) → i ++ codes " " ++ j ++ codes " " ++ x ++ codes "\n" ≡ (i ++ 32 ∷ (j ++ 32 ∷ x)) ++ 10 ∷ []
+    shape : (i j x : List ℕ) → i ++ codes " " ++ j ++ codes " " ++ (x ++ codes "\n") ≡ (i ++ 32 ∷ (j ++ 32 ∷ x)) ++ 10 ∷ []
     shape i j x = simp append_assoc
 
 if_pair : (b : Bool) (f : ℕ × ℕ → List ℕ) (p : ℕ × ℕ) → cond b (f p) [] ≡ flat_map f (cond b (p ∷ []) [])
@@ -71,13 +71,13 @@ text_below-rows c net (suc i) =
     ∙ ap (λ x. flat_map (λ p. edge_line c net p.0 p.1) (pairs_below net.nodes i) ++ x) (text_below-row c net i net.nodes)
     ∙ sym (flat_map-append (λ p. edge_line c net p.0 p.1) (pairs_below net.nodes i) (pairs_row i net.nodes))
 
-edges-printed : (c : NamedAlgebra) (net : Network) (ps : List (ℕ × ℕ)) → flat_map (λ p. edge_line c net p.0 p.1) ps ≡ printed (map (edge_words c net) ps)
+edges-printed : (c : NamedAlgebra) (net : Network) (ps : List (ℕ × ℕ)) → flat_map (λ p. edge_line c net p.0 p.1) ps ≡ printed (map (edge_tokens_of c net) ps)
 edges-printed c net [] = refl
 edges-printed c net (p ∷ ps) =
-    ap (λ x. x ++ flat_map (λ q. edge_line c net q.0 q.1) ps) (edge_line-printed c net p) ∙ ap (λ x. printed_line (edge_words c net p) ++ x) (edges-printed c net ps)
+    ap (λ x. x ++ flat_map (λ q. edge_line c net q.0 q.1) ps) (edge_line-printed c net p) ∙ ap (λ x. printed_line (edge_tokens_of c net p) ++ x) (edges-printed c net ps)
 
 names-printed : (n : ℕ) (names : List (List ℕ)) → length names ≡ n →
-    codes "names ( " ++ text_below n (word_text names) ++ codes ")\n" ≡ printed_line (names_words names)
+    codes "names ( " ++ text_below n (word_text names) ++ codes ")\n" ≡ printed_line (names_tokens_of names)
 names-printed n names l =
     ap (λ x. codes "names ( " ++ x ++ codes ")\n") (text_below-names names n (omega arith) ∙ ap spaces (take_all n names (omega arith)))
     ∙ shape (spaces names)
@@ -86,14 +86,14 @@ names-printed n names l =
     shape : (x : List ℕ) → codes "names ( " ++ x ++ codes ")\n" ≡ (codes "names" ++ 32 ∷ (40 ∷ 32 ∷ (x ++ 41 ∷ []))) ++ 10 ∷ []
     shape x = simp append_assoc
 
-names_line-printed : (n : ℕ) (names : List (List ℕ)) → (0 < length names → length names ≡ n) →
+names_text-printed : (n : ℕ) (names : List (List ℕ)) → (0 < length names → length names ≡ n) →
     cond (length names == 0) [] (codes "names ( " ++ text_below n (word_text names) ++ codes ")\n") ≡ printed (names_lines names)
-names_line-printed n [] l = refl
-names_line-printed n (x ∷ xs) l =
+names_text-printed n [] l = refl
+names_text-printed n (x ∷ xs) l =
     let some : (length (x ∷ xs) == 0) ≡ false = grind (arith, nat_tests) in
     ap (λ b. cond b [] (codes "names ( " ++ text_below n (word_text (x ∷ xs)) ++ codes ")\n")) some
     ∙ names-printed n (x ∷ xs) (l (omega arith))
-    ∙ sym (append-nil (printed_line (names_words (x ∷ xs))))
+    ∙ sym (append-nil (printed_line (names_tokens_of (x ∷ xs))))
 
 text-shape : (d names edges : List ℕ) → codes "nodes " ++ d ++ codes "\n" ++ names ++ edges ++ codes ".\n" ≡ ((codes "nodes" ++ 32 ∷ d) ++ 10 ∷ []) ++ (names ++ (edges ++ (46 ∷ 10 ∷ [])))
 text-shape d names edges = simp append_assoc
@@ -102,8 +102,8 @@ text-shape d names edges = simp append_assoc
 pub network_text-printed : (c : NamedAlgebra) (net : Network) → (0 < length net.names → length net.names ≡ net.nodes) → network_text c net ≡ printed (file_lines c net (pairs_below net.nodes net.nodes))
 network_text-printed c net l =
     let n = net.nodes in
-    let edges = map (edge_words c net) (pairs_below n n) in
-    ap (λ x. codes "nodes " ++ decimal n ++ codes "\n" ++ x ++ text_below n (row_text c net) ++ codes ".\n") (names_line-printed n net.names l)
+    let edges = map (edge_tokens_of c net) (pairs_below n n) in
+    ap (λ x. codes "nodes " ++ decimal n ++ codes "\n" ++ x ++ text_below n (row_text c net) ++ codes ".\n") (names_text-printed n net.names l)
     ∙ ap (λ x. codes "nodes " ++ decimal n ++ codes "\n" ++ printed (names_lines net.names) ++ x ++ codes ".\n") (text_below-rows c net n ∙ edges-printed c net (pairs_below n n))
     ∙ text-shape (decimal n) (printed (names_lines net.names)) (printed edges)
     ∙ sym (ap (λ x. printed_line (codes "nodes" ∷ decimal n ∷ []) ++ x)
@@ -124,7 +124,7 @@ pub record IsPair (n : ℕ) (p : ℕ × ℕ) : Type 0 where
   pub order : p.0 < p.1
   pub below : p.1 < n
 
-edge_tokens : (c : NamedAlgebra) (net : Network) (p : ℕ × ℕ) → net.nodes ≤ MAX_NODES → length c.names ≡ c.algebra.size → list_all is_name c.names ≡ true → IsPair net.nodes p → are_tokens (edge_words c net p) ≡ true
+edge_tokens : (c : NamedAlgebra) (net : Network) (p : ℕ × ℕ) → net.nodes ≤ MAX_NODES → length c.names ≡ c.algebra.size → list_all is_name c.names ≡ true → IsPair net.nodes p → are_tokens (edge_tokens_of c net p) ≡ true
 edge_tokens c net p few one_each names pair =
     let a = slice_index net.words (edge_at net.nodes p.0 p.1) in
     let ws = members c a ++ (41 ∷ []) ∷ [] in
@@ -133,22 +133,22 @@ edge_tokens c net p few one_each names pair =
     (closed-tokens (members c a) (members-names c.names a c.algebra.size names (omega arith))))
 
 edges_tokens : (c : NamedAlgebra) (net : Network) (ps : List (ℕ × ℕ)) → net.nodes ≤ MAX_NODES → length c.names ≡ c.algebra.size → list_all is_name c.names ≡ true → AllByRecursion (IsPair net.nodes) ps →
-    list_all are_tokens (map (edge_words c net) ps ++ ((46 ∷ []) ∷ []) ∷ []) ≡ true
+    list_all are_tokens (map (edge_tokens_of c net) ps ++ ((46 ∷ []) ∷ []) ∷ []) ≡ true
 edges_tokens c net [] few one_each names pairs = refl
 edges_tokens c net (p ∷ ps) few one_each names pairs =
-    both (are_tokens (edge_words c net p)) (list_all are_tokens (map (edge_words c net) ps ++ ((46 ∷ []) ∷ []) ∷ [])) (edge_tokens c net p few one_each names pairs.0)
+    both (are_tokens (edge_tokens_of c net p)) (list_all are_tokens (map (edge_tokens_of c net) ps ++ ((46 ∷ []) ∷ []) ∷ [])) (edge_tokens c net p few one_each names pairs.0)
     (edges_tokens c net ps few one_each names pairs.1)
 
 names_tokens : (names : List (List ℕ)) (rest : List (List (List ℕ))) → list_all is_name names ≡ true → list_all are_tokens rest ≡ true → list_all are_tokens (names_lines names ++ rest) ≡ true
 names_tokens [] rest h k = k
-names_tokens (x ∷ xs) rest h k = both (are_tokens (names_words (x ∷ xs))) (list_all are_tokens rest) (closed-tokens (x ∷ xs) h) k
+names_tokens (x ∷ xs) rest h k = both (are_tokens (names_tokens_of (x ∷ xs))) (list_all are_tokens rest) (closed-tokens (x ∷ xs) h) k
 
 pub file_tokens : (c : NamedAlgebra) (net : Network) (ps : List (ℕ × ℕ)) → net.nodes ≤ MAX_NODES → length c.names ≡ c.algebra.size → list_all is_name c.names ≡ true → list_all is_name net.names ≡ true → AllByRecursion (IsPair net.nodes) ps →
     list_all are_tokens (file_lines c net ps) ≡ true
 file_tokens c net ps few one_each names own pairs =
-    both (are_tokens (codes "nodes" ∷ decimal net.nodes ∷ [])) (list_all are_tokens (names_lines net.names ++ (map (edge_words c net) ps ++ ((46 ∷ []) ∷ []) ∷ [])))
+    both (are_tokens (codes "nodes" ∷ decimal net.nodes ∷ [])) (list_all are_tokens (names_lines net.names ++ (map (edge_tokens_of c net) ps ++ ((46 ∷ []) ∷ []) ∷ [])))
     (both (is_token_text (decimal net.nodes)) true (IsPrintedNumber-below net.nodes (small net.nodes (omega arith))).token refl)
-    (names_tokens net.names (map (edge_words c net) ps ++ ((46 ∷ []) ∷ []) ∷ []) own (edges_tokens c net ps few one_each names pairs))
+    (names_tokens net.names (map (edge_tokens_of c net) ps ++ ((46 ∷ []) ∷ []) ∷ []) own (edges_tokens c net ps few one_each names pairs))
 
 -- ---- the pairs are in edge order, and each is among them
 

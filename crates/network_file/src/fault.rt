@@ -1,6 +1,9 @@
+//! Why a text is no network file.
 ghost use Rattle.std.specs.Prelude.{◌≡◌};
+ghost use Rattle.network_file.specs.NetworkFile.{end_fault};
 
-use qsr_lex::NamesStop;
+use line_files::TextEnd;
+use qsr_lex::NamesFault;
 use thiserror::Error;
 
 /// Why a text is no network file over a calculus. The first faulty line decides.
@@ -27,18 +30,28 @@ pub enum FileFault {
     /// The text ends without the end line.
     #[error("no end line within {lines} lines")]
     NoEnd { lines: u32 },
-    /// Want of memory.
-    #[error("want of memory")]
+    /// Out of memory.
+    #[error("out of memory")]
     Memory,
 }
 
-/// The fault of a line whose names can't be read.
-pub(crate) fn form_fault(line: u32, stop: NamesStop) -> FileFault
-    ensures form { stop ≡ NamesStop.Form → result ≡ FileFault.Syntax line }
-    ensures memory { stop ≡ NamesStop.Memory → result ≡ FileFault.Memory }
+/// The fault where the lines that can be read end before the end line.
+pub(crate) fn end_fault(end: TextEnd) -> FileFault
+    ensures { result ≡ end_fault end }
 {
-    match stop {
-        NamesStop::Form => FileFault::Syntax { line },
-        NamesStop::Memory => FileFault::Memory,
+    match end {
+        TextEnd::BadLine { line } => FileFault::Syntax { line },
+        TextEnd::Whole { lines } => FileFault::NoEnd { lines },
+    }
+}
+
+/// The fault of a line whose names can't be read.
+pub(crate) fn names_fault(line: u32, fault: NamesFault) -> FileFault
+    ensures form { fault ≡ NamesFault.Form → result ≡ FileFault.Syntax line }
+    ensures memory { fault ≡ NamesFault.Memory → result ≡ FileFault.Memory }
+{
+    match fault {
+        NamesFault::Form => FileFault::Syntax { line },
+        NamesFault::Memory => FileFault::Memory,
     }
 }

@@ -1,88 +1,105 @@
-//! The forms of the lines of a network file.
-ghost use Rattle.std.specs.Prelude.{◌≡◌, map, All, IfOk, IsErrOf, MatchOption, Some, None, true};
+//! The forms of the lines of a network file: `nodes N`, `names ( A B .. )` and `I J ( R .. )`.
+//!
+//! A line's form is tested before anything else of it. A node's token is read once, as a number or a name; whether there is
+//! such a node is asked where the facts are read.
+ghost use Rattle.std.specs.Prelude.{◌≡◌, ◌-◌, ◌^◌, map, length, All, IfOk, IfSome, IsErrOf, MatchOption, Some, None, true};
+ghost use Rattle.calculus_table.specs.Rel.{IsWithin};
 ghost use Rattle.qsr_lex.specs.Names.{is_name};
-ghost use Rattle.network_file.specs.LineForms.{nodes_form, names_form, node_at, is_node_word, fact_form};
+ghost use Rattle.network_file.specs.LineForms.{nodes_form, names_form, node_token, node_at, fact_form};
+ghost use Rattle.network_file.specs.FormsRead.{node_read, fact_read};
 
-use qsr_lex::{NamesStop, WordReader, is_name, number};
+use calculus_table::Rel;
+use named_sets::{BaseNames, read_set};
+use qsr_lex::{NamesFault, TokenReader, is_name, number};
 use std::alloc::Global;
 
-/// The words of a fact's line: its two nodes, and the base relations of its set.
-#[derive(Drop)]
-pub(crate) struct FactWords<'a> {
-    pub first: &'a [u8],
-    pub second: &'a [u8],
-    pub set: Vec<&'a [u8]>,
+/// A token that stands for a node.
+#[derive(Clone, Copy)]
+pub(crate) enum NodeToken<'a> {
+    /// Its number.
+    Number(u64),
+    /// Its name.
+    Name(&'a [u8]),
+}
+
+/// The tokens of a fact's line: its two nodes, and its set, where each name is that of a base relation.
+#[derive(Clone, Copy)]
+pub(crate) struct FactTokens<'a> {
+    pub first: NodeToken<'a>,
+    pub second: NodeToken<'a>,
+    pub set: Option<Rel>,
 }
 
 /// The number of a line `nodes N`.
-pub(crate) fn nodes_form(words: &mut WordReader<'_>) -> Option<u64>
-    ensures { result ≡ nodes_form words.old }
+pub(crate) fn nodes_form(tokens: &mut TokenReader<'_>) -> Option<u64>
+    ensures { result ≡ nodes_form tokens.old }
 {
-    if !words.take_word(b"nodes") {
+    if !tokens.take_word(b"nodes") {
         return None;
     }
-    let nodes = number(words.word()?)?;
-    if words.is_empty() { Some(nodes) } else { None }
+    let nodes = number(tokens.word()?)?;
+    if tokens.is_empty() { Some(nodes) } else { None }
 }
 
-/// The names of a line `names ( A B .. )`, after the word `names`, where there are so many.
+/// The names of a line `names ( A B .. )`, after the word `names`, where there are `count`.
 pub(crate) fn names_form<'a>(
     alloc: Global,
     count: u32,
-    words: &mut WordReader<'a>,
-) -> Result<Vec<&'a [u8]>, NamesStop>
-    ensures ok { IfOk result (λ names. names_form count words.old ≡ Some (map (λ name. name.now) names.items)) }
+    tokens: &mut TokenReader<'a>,
+) -> Result<Vec<&'a [u8]>, NamesFault>
+    ensures ok { IfOk result (λ names.
+        names_form count tokens.old ≡ Some (map (λ name. name.now) names.items)) }
     ensures each { IfOk result (λ names. All (λ name. is_name name.now ≡ true) names.items) }
-    ensures form { IsErrOf result NamesStop.Form → names_form count words.old ≡ None }
+    ensures form { IsErrOf result NamesFault.Form → names_form count tokens.old ≡ None }
 {
-    let names = words.names(alloc)?;
-    if names.len() == count as usize && words.is_empty() {
+    let names = tokens.names(alloc)?;
+    if names.len() == count as usize && tokens.is_empty() {
         Ok(names)
     } else {
-        Err(NamesStop::Form)
+        Err(NamesFault::Form)
     }
 }
 
-fn is_node_word(named: bool, word: &[u8]) -> bool
-    ensures { result ≡ is_node_word named word.now }
+/// What a word stands for as a node: a number, or a name if the nodes have names.
+#[inline(always)]
+fn node_token<'a>(named: bool, word: &'a [u8]) -> Option<NodeToken<'a>>
+    ensures { MatchOption result (node_token named word.now ≡ None)
+        (λ token. node_token named word.now ≡ Some (node_read token)) }
 {
-    number(word).is_some() || (named && is_name(word))
+    match number(word) {
+        Some(node) => Some(NodeToken::Number(node)),
+        None if named && is_name(word) => Some(NodeToken::Name(word)),
+        None => None,
+    }
 }
 
-fn node_at<'a>(named: bool, words: &mut WordReader<'a>) -> Option<&'a [u8]>
-    ensures { MatchOption result (node_at named words.old ≡ None) (λ word. node_at named words.old ≡ Some (word.now, words.new)) }
+/// Returns the node's token that comes next, and moves past it.
+#[inline(always)]
+fn node_at<'a>(named: bool, tokens: &mut TokenReader<'a>) -> Option<NodeToken<'a>>
+    ensures { MatchOption result (node_at named tokens.old ≡ None)
+        (λ token. node_at named tokens.old ≡ Some (node_read token, tokens.new)) }
 {
-    let word = words.word()?;
-    if is_node_word(named, word) {
-        Some(word)
+    let word = tokens.word()?;
+    node_token(named, word)
+}
+
+/// The tokens of a line `I J ( R .. )`, where a node may be named if the nodes have names.
+pub(crate) fn fact_form<'a>(
+    named: bool,
+    tokens: &mut TokenReader<'a>,
+    bases: &BaseNames<'_>,
+) -> Option<FactTokens<'a>>
+    ensures form { MatchOption result (fact_form bases.now named tokens.old ≡ None)
+        (λ found. fact_form bases.now named tokens.old ≡ Some (fact_read found)) }
+    ensures within { IfSome result (λ found.
+        IfSome found.set (λ a. IsWithin a (2 ^ length bases.now - 1))) }
+{
+    let first = node_at(named, tokens)?;
+    let second = node_at(named, tokens)?;
+    let set = read_set(tokens, bases)?;
+    if tokens.is_empty() {
+        Some(FactTokens { first, second, set })
     } else {
         None
-    }
-}
-
-/// The words of a line `I J ( R .. )`, where a node may be named if the nodes have names.
-pub(crate) fn fact_form<'a>(
-    alloc: Global,
-    named: bool,
-    words: &mut WordReader<'a>,
-) -> Result<FactWords<'a>, NamesStop>
-    ensures ok { IfOk result (λ found. fact_form named words.old ≡ Some (record {
-      first = found.first.now;
-      second = found.second.now;
-      set = map (λ name. name.now) found.set.items;
-    })) }
-    ensures form { IsErrOf result NamesStop.Form → fact_form named words.old ≡ None }
-{
-    let Some(first) = node_at(named, words) else {
-        return Err(NamesStop::Form);
-    };
-    let Some(second) = node_at(named, words) else {
-        return Err(NamesStop::Form);
-    };
-    let set = words.names(alloc)?;
-    if words.is_empty() {
-        Ok(FactWords { first, second, set })
-    } else {
-        Err(NamesStop::Form)
     }
 }

@@ -1,7 +1,18 @@
-ghost use Rattle.network_file.specs.ReadAgain.{PrintedIsRead, FileIsOfOne};
+//! Laws of network files.
+ghost use Rattle.network_file.specs.Laws.{PrintedIsRead, FileIsOfOne, FileHasOneFault, FileHasNoFault};
 
-/// The canonical text of a network is read as an equal network.
-pub fn laws_of_files()
-    ensures printed { PrintedIsRead }
-    ensures one { FileIsOfOne }
+/// The canonical text of a network is a network file, of that network.
+pub fn printed_network_is_read()
+    ensures { PrintedIsRead }
+{}
+
+/// A text is the file of one network at most.
+pub fn file_is_of_one_network()
+    ensures { FileIsOfOne }
+{}
+
+/// A text has one fault at most, out of memory aside, and a network file has none.
+pub fn file_has_one_answer()
+    ensures one { FileHasOneFault }
+    ensures none { FileHasNoFault }
 {}

@@ -1,32 +1,53 @@
 //! Reading network files.
+//!
+//! The lines are read in order, each once, and the first faulty one decides. The network has, from the first line on, the
+//! full set on each pair; each fact intersects the set of its pair, so that in the end it is the network of the facts
+//! whatever their order. Besides the network and its names nothing is kept: reading takes time linear in the text.
 ghost use Rattle.std.specs.Prelude.{◌≡◌, ◌≤◌, [], length, IfOk, IfErr, OnOk, Ok};
-ghost use Rattle.network_file.specs.NetworkFile.{FailsWith, nodes_line, names_line, read_lines, read_network, IsNetworkOf, Says, IsFileOf};
+ghost use Rattle.qsr_lex.specs.declared.TheConstants.{MAX_TEXT};
+ghost use Rattle.network_words.specs.Network.{IsNetwork};
+ghost use Rattle.network_file.specs.NetworkFile.{FailsWith, nodes_line, names_line, read_network, IsNetworkOfContents, IsFileOf};
 
 use crate::facts::read_facts;
-use crate::fault::{FileFault, form_fault};
+use crate::fault::{FileFault, end_fault, names_fault};
 use crate::forms::{names_form, nodes_form};
-use crate::text_end::{TextEnd, end_at, end_fault};
 use calculus_table::{Calculus, Compose};
+use line_files::{FileLines, owned_names};
+use named_sets::BaseNames;
 use network_words::{MAX_NODES, Net, NetFault};
-use qsr_lex::{LineReader, owned_names, readable};
 use std::alloc::Global;
 
+/// Reads the network of a network file of at most `MAX_TEXT` bytes, over a calculus.
+pub fn read(alloc: Global, bytes: &[u8], c: &Calculus) -> Result<Net, FileFault>
+    requires { length bytes.now ≤ MAX_TEXT }
+    ensures ok { IfOk result (IsFileOf c.now bytes.now) }
+    // Its sets are sets of base relations of the calculus.
+    ensures network { IfOk result (λ net. IsNetwork c.now.algebra net.nodes net.words) }
+    // The fault is that of the text, unless it is out of memory.
+    ensures fault { IfErr result (FailsWith (read_network c.now bytes.now)) }
+{
+    let bases = BaseNames::new(c.names());
+    let mut lines = FileLines::new(bytes);
+    let mut net = read_nodes(alloc, &mut lines, c)?;
+    read_names(alloc, &mut lines, &mut net)?;
+    read_facts(&mut lines, &bases, c, &mut net)?;
+    Ok(net)
+}
+
 /// A network without names and facts, of as many nodes as the first line says.
-fn read_nodes(
-    alloc: Global,
-    lines: &mut LineReader<'_>,
-    end: TextEnd,
-    c: &Calculus,
-) -> Result<Net, FileFault>
-    ensures ok { IfOk result (λ net. nodes_line end lines.old ≡ Ok (net.nodes, lines.new)) }
-    ensures fresh { IfOk result (λ net. IsNetworkOf c.now (record { nodes = net.nodes; names = []; facts = [] }) net) }
-    ensures fault { IfErr result (FailsWith (nodes_line end lines.old)) }
+fn read_nodes(alloc: Global, lines: &mut FileLines<'_>, c: &Calculus) -> Result<Net, FileFault>
+    ensures ok { IfOk result (λ net.
+        nodes_line lines.old.end lines.old.lines ≡ Ok (net.nodes, lines.new.lines)) }
+    ensures end { IfOk result (λ _. lines.new.end ≡ lines.old.end) }
+    ensures fresh { IfOk result (λ net. IsNetworkOfContents c.now
+        (record { nodes = net.nodes; names = []; facts = [] }) net) }
+    ensures fault { IfErr result (FailsWith (nodes_line lines.old.end lines.old.lines)) }
 {
     let Some(mut line) = lines.next_line() else {
-        return Err(end_fault(end));
+        return Err(end_fault(lines.end()));
     };
     let number = line.number;
-    let Some(nodes) = nodes_form(&mut line.words) else {
+    let Some(nodes) = nodes_form(&mut line.tokens) else {
         return Err(FileFault::Syntax { line: number });
     };
     if nodes == 0 || nodes > u64::from(MAX_NODES) {
@@ -39,25 +60,21 @@ fn read_nodes(
 }
 
 /// Names the nodes, where the next line gives names.
-fn read_names(alloc: Global, lines: &mut LineReader<'_>, net: &mut Net) -> Result<(), FileFault>
+fn read_names(alloc: Global, lines: &mut FileLines<'_>, net: &mut Net) -> Result<(), FileFault>
     requires { net.old.names ≡ [] }
-    ensures ok { OnOk result (names_line net.old.nodes lines.old ≡ Ok (net.new.names, lines.new)) }
+    ensures ok { OnOk result
+        (names_line net.old.nodes lines.old.lines ≡ Ok (net.new.names, lines.new.lines)) }
+    ensures end { OnOk result (lines.new.end ≡ lines.old.end) }
     ensures kept { OnOk result (net.new ≡ record net.old { names = net.new.names }) }
-    ensures fault { IfErr result (FailsWith (names_line net.old.nodes lines.old)) }
+    ensures fault { IfErr result (FailsWith (names_line net.old.nodes lines.old.lines)) }
 {
-    if !lines.begins_with(b"names") {
-        return Ok(());
-    }
-    let Some(mut line) = lines.next_line() else {
+    let Some(mut line) = lines.next_line_of(b"names") else {
         return Ok(());
     };
     let number = line.number;
-    if !line.words.take_word(b"names") {
-        return Err(FileFault::Syntax { line: number });
-    }
-    let names = match names_form(alloc, net.nodes(), &mut line.words) {
+    let names = match names_form(alloc, net.nodes(), &mut line.tokens) {
         Ok(names) => names,
-        Err(stop) => return Err(form_fault(number, stop)),
+        Err(fault) => return Err(names_fault(number, fault)),
     };
     let Ok(names) = owned_names(alloc, &names) else {
         return Err(FileFault::Memory);
@@ -67,34 +84,4 @@ fn read_names(alloc: Global, lines: &mut LineReader<'_>, net: &mut Net) -> Resul
         Err(NetFault::NameTwice { .. }) => Err(FileFault::NameTwice { line: number }),
         Err(_) => Err(FileFault::Memory),
     }
-}
-
-/// The network of lines, after which this end stands.
-fn read_lines(
-    alloc: Global,
-    lines: &mut LineReader<'_>,
-    end: TextEnd,
-    c: &Calculus,
-) -> Result<Net, FileFault>
-    ensures ok { IfOk result (Says c.now (read_lines c.now end lines.old)) }
-    ensures fault { IfErr result (FailsWith (read_lines c.now end lines.old)) }
-{
-    let mut net = read_nodes(alloc, lines, end, c)?;
-    read_names(alloc, lines, &mut net)?;
-    read_facts(alloc, lines, end, c, &mut net)?;
-    Ok(net)
-}
-
-/// Reads the network of a network file of at most 16,777,216 bytes, over a calculus.
-pub fn read(alloc: Global, bytes: &[u8], c: &Calculus) -> Result<Net, FileFault>
-    requires { length bytes.now ≤ 16777216 }
-    ensures ok { IfOk result (IsFileOf c.now bytes.now) }
-    // The fault is that of the text, unless there is want of memory.
-    ensures fault { IfErr result (FailsWith (read_network c.now bytes.now)) }
-{
-    let Ok(found) = readable(alloc, bytes) else {
-        return Err(FileFault::Memory);
-    };
-    let mut lines = LineReader::new(bytes, &found.tokens);
-    read_lines(alloc, &mut lines, end_at(found.bad_line, found.count), c)
 }

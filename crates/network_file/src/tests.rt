@@ -1,56 +1,22 @@
 //! Network files over the calculus of points on a line.
-ghost use Rattle.std.specs.Prelude.{◌≡◌, IfOk, length};
-
 use super::*;
-use calculus_table::{Calculus, Rel, TableFault};
-use network_words::{MAX_NODES, Net};
+use calculus_builtin::point;
+use calculus_table::Calculus;
+use network_words::Net;
+use qsr_lex::MAX_TEXT;
 use std::alloc::Global;
 use std::process::Abort;
 use std::test::Fail;
 
-/// `<`, `=` and `>`: their converses, and their compositions as words.
-const CONVERSES: [u32; 3] = [2, 1, 0];
-
-const COMPOSITIONS: [u64; 9] = [1, 1, 7, 1, 2, 4, 7, 4, 4];
-
-/// The longest text of these tests.
-const LONGEST: usize = 10_000;
-
-fn owned(alloc: Global, name: &str) -> Result<String, TableFault> {
-    String::from_str(alloc, name).map_err(|_| TableFault::Memory)
-}
-
-fn three_names(alloc: Global) -> Result<Vec<String>, TableFault>
-    ensures { IfOk result (λ owned. length owned.items ≡ 3) }
-{
-    let owned = [owned(alloc, "<")?, owned(alloc, "=")?, owned(alloc, ">")?];
-    Vec::from_array(alloc, owned).map_err(|_| TableFault::Memory)
-}
-
-fn sets_of(alloc: Global, words: &[u64]) -> Result<Vec<Rel>, TableFault>
-    ensures { IfOk result (λ sets. sets.items ≡ words.now) }
-{
-    words
-        .iter()
-        .map(|word| Rel::of(*word))
-        .collect(alloc)
-        .map_err(|_| TableFault::Memory)
-}
-
-fn points(alloc: Global) -> Result<Calculus, TableFault> {
-    let names = three_names(alloc)?;
-    let table = sets_of(alloc, &COMPOSITIONS)?;
-    Calculus::new(alloc, names, 1, &CONVERSES, &table)
-}
-
+/// Reads a text that is no longer than a text may be.
 fn read_short(alloc: Global, text: &[u8], c: &Calculus) -> Result<Net, FileFault> {
-    if text.len() > LONGEST {
+    if text.len() > MAX_TEXT {
         return Err(FileFault::Memory);
     }
     read(alloc, text, c)
 }
 
-// The text is read as a network of so many nodes with these sets.
+/// Asserts that the text is read as a network of so many nodes with these sets.
 fn reads(
     rt: &impl Abort,
     alloc: Global,
@@ -68,7 +34,7 @@ fn reads(
 #[test]
 fn facts_are_met(rt: HostRuntime) -> Result<(), Fail> {
     let alloc = rt.alloc();
-    let c = points(alloc)?;
+    let c = point(alloc)?;
     reads(&rt, alloc, &c, b"nodes 1\n.\n", 1, &[])?;
     reads(&rt, alloc, &c, b"nodes 3\n.", 3, &[7, 7, 7])?;
     reads(&rt, alloc, &c, b"nodes 3\n0 1 ( < )\n.\n", 3, &[1, 7, 7])?;
@@ -97,7 +63,7 @@ fn facts_are_met(rt: HostRuntime) -> Result<(), Fail> {
 #[test]
 fn names_comments_and_loose_lines_are_read(rt: HostRuntime) -> Result<(), Fail> {
     let alloc = rt.alloc();
-    let c = points(alloc)?;
+    let c = point(alloc)?;
     reads(&rt, alloc, &c, b"nodes 002\r\n00 01(<)\r\n.\r\n", 2, &[1])?;
     reads(
         &rt,
@@ -118,13 +84,13 @@ fn names_comments_and_loose_lines_are_read(rt: HostRuntime) -> Result<(), Fail> 
     Ok(())
 }
 
-// Each text is refused with its fault.
+/// Asserts that each text is refused with its fault.
 fn are_refused(
     rt: &impl Abort,
     alloc: Global,
     rows: &[(&[u8], FileFault)],
-) -> Result<(), TableFault> {
-    let c = points(alloc)?;
+) -> Result<(), calculus_table::Memory> {
+    let c = point(alloc)?;
     for (text, fault) in rows {
         assert_eq!(rt; read_short(alloc, text, &c).err(), Some(*fault), "{text:?}");
     }
@@ -144,13 +110,11 @@ fn a_faulty_first_line_is_refused(rt: HostRuntime) -> Result<(), Fail> {
         (b"nodes 0\n.\n", FileFault::Nodes { line: 1 }),
         (b"nodes 123456789012345678\n", FileFault::Nodes { line: 1 }),
     ];
-    are_refused(&rt, rt.alloc(), &rows)?;
     let alloc = rt.alloc();
-    let most = format!(in alloc; "\nnodes {}\n", MAX_NODES)?;
-    let more = format!(in alloc; "\nnodes {}\n", MAX_NODES + 1)?;
-    let limits = [
-        (most.as_bytes(), FileFault::NoEnd { lines: 2 }),
-        (more.as_bytes(), FileFault::Nodes { line: 2 }),
+    are_refused(&rt, alloc, &rows)?;
+    let limits: [(&[u8], FileFault); 2] = [
+        (b"\nnodes 256\n", FileFault::NoEnd { lines: 2 }),
+        (b"\nnodes 257\n", FileFault::Nodes { line: 2 }),
     ];
     are_refused(&rt, alloc, &limits)?;
     Ok(())
@@ -240,7 +204,7 @@ fn a_faulty_end_or_a_hostile_byte_is_refused(rt: HostRuntime) -> Result<(), Fail
 #[test]
 fn a_printed_network_is_read_again(rt: HostRuntime) -> Result<(), Fail> {
     let alloc = rt.alloc();
-    let c = points(alloc)?;
+    let c = point(alloc)?;
     for file in [
         "nodes 1\n.\n",
         "nodes 3\n0 1 ( < = > )\n0 2 ( )\n1 2 ( < > )\n.\n",
@@ -250,5 +214,29 @@ fn a_printed_network_is_read_again(rt: HostRuntime) -> Result<(), Fail> {
         let printed = text(alloc, &net, &c).map_err(|_| FileFault::Memory)?;
         assert_eq!(rt; printed.as_str(), file);
     }
+    Ok(())
+}
+
+#[test]
+fn the_greatest_network_has_32642_lines(rt: HostRuntime) -> Result<(), Fail> {
+    let alloc = rt.alloc();
+    let c = point(alloc)?;
+    let net = read_short(alloc, b"nodes 256\n.\n", &c)?;
+    let printed = text(alloc, &net, &c).map_err(|_| FileFault::Memory)?;
+    let lines = printed.as_str().lines();
+    assert_eq!(rt; lines.count(), 32_642);
+    assert!(rt; printed.ends_with("\n254 255 ( < = > )\n.\n"));
+    Ok(())
+}
+
+#[test]
+fn a_text_of_the_greatest_length_is_read(rt: HostRuntime) -> Result<(), Fail> {
+    let alloc = rt.alloc();
+    let c = point(alloc)?;
+    let mut bytes = vec![in alloc; b'\n'; 16_777_207]?;
+    bytes.extend_from_slice(b"nodes 1\n")?;
+    assert_eq!(rt; bytes.len(), 16_777_215);
+    bytes.push(b'.')?;
+    assert_eq!(rt; read_short(alloc, &bytes, &c)?.nodes(), 1);
     Ok(())
 }

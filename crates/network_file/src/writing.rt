@@ -1,52 +1,74 @@
-ghost use Rattle.std.specs.Prelude.{◌≡◌, ◌≢◌, ◌<◌, [], ◌++◌, codes, OnOk, IfOk};
+//! The canonical text of a network.
+//!
+//! Everything is appended to one text. The numbers of the nodes are written once, each with the space after it, and the line
+//! of a set is made once and copied wherever it recurs, so the line of an edge costs three copies.
+ghost use Rattle.std.specs.Prelude.{◌≡◌, ◌≢◌, ◌<◌, [], ◌++◌, length, map, slice_index_or, codes, OnOk, IfOk};
+ghost use Rattle.std.specs.Fmt.{decimal};
 ghost use Rattle.std.specs.String.{string_bytes};
 ghost use Rattle.qsr_lex.specs.Printed.{word_text};
-ghost use Rattle.network_file.specs.NetworkText.{edge_line, row_text, names_line, network_text};
+ghost use Rattle.network_file.specs.NetworkText.{number_texts, edge_line, row_text, names_text, network_text};
 
 use calculus_table::{Calculus, Memory};
-use named_sets::push_set;
+use named_sets::SetWriter;
 use network_words::Net;
 use std::alloc::{AllocError, Global};
 
-/// Appends the line of an edge.
-fn push_edge(text: &mut String, net: &Net, c: &Calculus, i: u32, j: u32) -> Result<(), AllocError>
-    requires order { i < j }
-    requires below { j < net.now.nodes }
-    ensures { OnOk result (string_bytes text.new ≡ string_bytes text.old ++ edge_line c.now net.now i j) }
+/// The canonical text of a network, whose sets are written by the names of `c`.
+pub fn text(alloc: Global, net: &Net, c: &Calculus) -> Result<String, Memory>
+    ensures { IfOk result (λ text. string_bytes text ≡ network_text c.now net.now) }
 {
-    write!(text, "{i} {j} ")?;
-    push_set(text, c, net.word(net.edge(i, j)))?;
-    text.push_str("\n")?;
+    let mut text = String::new(alloc);
+    let mut sets = SetWriter::new(alloc, c)?;
+    let numbers = number_texts(alloc, net.nodes())?;
+    push_network(&mut text, net, &mut sets, &numbers)?;
+    Ok(text)
+}
+
+/// The number of each node below `nodes`, with a space after it.
+fn number_texts(alloc: Global, nodes: u32) -> Result<Vec<String>, Memory>
+    ensures { IfOk result (λ texts. map string_bytes texts.items ≡ number_texts nodes) }
+{
+    let mut texts = Vec::new(alloc);
+    for node in 0..nodes {
+        let text = format!(in alloc; "{node} ").map_err(|_| Memory)?;
+        texts.push(text).map_err(|_| Memory)?;
+    }
+    Ok(texts)
+}
+
+/// Appends the header, the names, a line for each edge, and the end line.
+fn push_network(
+    text: &mut String,
+    net: &Net,
+    sets: &mut SetWriter<'_>,
+    numbers: &[String],
+) -> Result<(), Memory>
+    requires { map string_bytes numbers.now ≡ number_texts net.now.nodes }
+    ensures { OnOk result
+        (string_bytes text.new ≡ string_bytes text.old ++ network_text sets.old net.now) }
+{
+    push_header(text, net).map_err(|_| Memory)?;
+    for i in 0..net.nodes() {
+        push_row(text, net, sets, numbers, i)?;
+    }
+    text.push_str(".\n").map_err(|_| Memory)?;
     Ok(())
 }
 
-/// Appends the lines of the edges from `i`.
-fn push_row(text: &mut String, net: &Net, c: &Calculus, i: u32) -> Result<(), AllocError>
-    requires { i < net.now.nodes }
-    ensures { OnOk result (string_bytes text.new ≡ string_bytes text.old ++ row_text c.now net.now i) }
+/// Appends the line of the number of nodes and that of their names.
+fn push_header(text: &mut String, net: &Net) -> Result<(), AllocError>
+    ensures { OnOk result (string_bytes text.new ≡ string_bytes text.old
+        ++ codes "nodes " ++ decimal net.now.nodes ++ codes "\n" ++ names_text net.now) }
 {
-    let nodes = net.nodes();
-    for j in i + 1..nodes {
-        push_edge(text, net, c, i, j)?;
-    }
-    Ok(())
-}
-
-/// Appends the name of a node.
-fn push_name(text: &mut String, net: &Net, node: u32) -> Result<(), AllocError>
-    requires below { node < net.now.nodes }
-    requires named { net.now.names ≢ [] }
-    ensures { OnOk result (string_bytes text.new ≡ string_bytes text.old ++ word_text net.now.names node) }
-{
-    if let Some(name) = net.name(node) {
-        write!(text, "{name} ")?;
-    }
+    writeln!(text, "nodes {}", net.nodes())?;
+    push_names(text, net)?;
     Ok(())
 }
 
 /// Appends the line of the nodes' names, where they have names.
 fn push_names(text: &mut String, net: &Net) -> Result<(), AllocError>
-    ensures { OnOk result (string_bytes text.new ≡ string_bytes text.old ++ names_line net.now) }
+    ensures { OnOk result
+        (string_bytes text.new ≡ string_bytes text.old ++ names_text net.now) }
 {
     let nodes = net.nodes();
     if net.name(0).is_none() {
@@ -60,26 +82,70 @@ fn push_names(text: &mut String, net: &Net) -> Result<(), AllocError>
     Ok(())
 }
 
-/// Appends the header, the names, a line for each edge, and the end line.
-fn push_network(text: &mut String, net: &Net, c: &Calculus) -> Result<(), AllocError>
-    ensures { OnOk result (string_bytes text.new ≡ string_bytes text.old ++ network_text c.now net.now) }
+/// Appends the name of a node and a space.
+fn push_name(text: &mut String, net: &Net, node: u32) -> Result<(), AllocError>
+    requires below { node < net.now.nodes }
+    requires named { net.now.names ≢ [] }
+    ensures { OnOk result
+        (string_bytes text.new ≡ string_bytes text.old ++ word_text net.now.names node) }
 {
-    writeln!(text, "nodes {}", net.nodes())?;
-    push_names(text, net)?;
-    for i in 0..net.nodes() {
-        push_row(text, net, c, i)?;
+    if let Some(name) = net.name(node) {
+        write!(text, "{name} ")?;
     }
-    text.push_str(".\n")?;
     Ok(())
 }
 
-/// The canonical text of a network, whose sets are written by the names of `c`.
-pub fn text(alloc: Global, net: &Net, c: &Calculus) -> Result<String, Memory>
-    ensures { IfOk result (λ text. string_bytes text ≡ network_text c.now net.now) }
+/// Appends the lines of the edges from `i`.
+fn push_row(
+    text: &mut String,
+    net: &Net,
+    sets: &mut SetWriter<'_>,
+    numbers: &[String],
+    i: u32,
+) -> Result<(), Memory>
+    requires below { i < net.now.nodes }
+    requires numbers { map string_bytes numbers.now ≡ number_texts net.now.nodes }
+    ensures text { OnOk result
+        (string_bytes text.new ≡ string_bytes text.old ++ row_text sets.old net.now i) }
+    ensures sets { sets.new ≡ sets.old }
 {
-    let mut text = String::new(alloc);
-    match push_network(&mut text, net, c) {
-        Ok(()) => Ok(text),
+    let nodes = net.nodes();
+    for j in i + 1..nodes {
+        push_edge(text, net, sets, numbers, i, j)?;
+    }
+    Ok(())
+}
+
+/// Appends the line of an edge.
+fn push_edge(
+    text: &mut String,
+    net: &Net,
+    sets: &mut SetWriter<'_>,
+    numbers: &[String],
+    i: u32,
+    j: u32,
+) -> Result<(), Memory>
+    requires order { i < j }
+    requires below { j < net.now.nodes }
+    requires numbers { map string_bytes numbers.now ≡ number_texts net.now.nodes }
+    ensures text { OnOk result
+        (string_bytes text.new ≡ string_bytes text.old ++ edge_line sets.old net.now i j) }
+    ensures sets { sets.new ≡ sets.old }
+{
+    push_number(text, numbers, i)?;
+    push_number(text, numbers, j)?;
+    sets.push_line(text, net.word(net.edge(i, j)))?;
+    Ok(())
+}
+
+/// Appends the number of a node and a space.
+fn push_number(text: &mut String, numbers: &[String], node: u32) -> Result<(), Memory>
+    requires { node < length numbers.now }
+    ensures { OnOk result (string_bytes text.new
+        ≡ string_bytes text.old ++ slice_index_or (map string_bytes numbers.now) node []) }
+{
+    match text.push_str(&numbers[node as usize]) {
+        Ok(()) => Ok(()),
         Err(_) => Err(Memory),
     }
 }

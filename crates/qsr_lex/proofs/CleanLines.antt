@@ -1,16 +1,10 @@
 -- The lines before the first one with a byte that isn't allowed.
-use Rattle.std.proofs.Common.{◌≡◌, ℕ, zero, suc, ◌+◌, Bool, true, false, cond, List, [], ◌∷◌, ◌++◌, length, take, Some, None, refl, sym, ap, ◌∙◌, subst, arith, append_assoc}
+use Rattle.std.proofs.Common.{◌≡◌, ℕ, zero, suc, ◌+◌, Bool, true, false, cond, List, [], ◌∷◌, length, take, Some, None, refl, sym, ap, ◌∙◌}
 use Rattle.std.specs.List.{flat_map}
-use Rattle.std.proofs.lemmas.List.{length-append}
 use Rattle.qsr_lex.specs.Bytes.{is_lf}
-use Rattle.qsr_lex.specs.TextLines.{add_byte, text_lines, is_clean, clean_front, readable_text, line_count, bad_line, bad_line_from}
-use Rattle.qsr_lex.specs.Tokens.{tokens_of, tokens_of_lines, token_bytes, shown_bytes, AreApart}
-use Rattle.qsr_lex.specs.TokenLines.{by_line, token_lines}
-use Rattle.qsr_lex.specs.declared.tokens.Token.{Token}
+use Rattle.qsr_lex.specs.TextLines.{add_byte, text_lines, is_clean, clean_front, readable_text, bad_line, bad_line_from}
 use Rattle.qsr_lex.proofs.Scanning.{add_byte-lf}
-use Rattle.qsr_lex.proofs.Spans.{concat-text_lines, AreApart-later, AreApart-tokens_of, length-text_lines}
-use Rattle.qsr_lex.proofs.NoByteLost.{token_bytes-tokens_of}
-use Rattle.qsr_lex.proofs.Grouping.{by_line-tokens_of}
+use Rattle.qsr_lex.proofs.Spans.{concat-text_lines}
 
 abbrev concat : List (List ℕ) → List ℕ
 concat ls = flat_map (λ l. l) ls
@@ -80,50 +74,3 @@ clean_front-all n (l ∷ ls) h = all_clean (is_clean l) l ls n h (clean_front-al
 
 pub readable_text-all : (bs : List ℕ) → bad_line bs ≡ None → readable_text bs ≡ bs
 readable_text-all bs h = ap concat (clean_front-all 1 (text_lines bs) h) ∙ concat-text_lines bs
-
--- the readable text is the front of the text
-clean_rest : (c : Bool) (l more : List ℕ) (ls : List (List ℕ)) → concat ls ≡ concat (clean_front ls) ++ more
-    → (rest : List ℕ) × (concat (l ∷ ls) ≡ concat (cond c (l ∷ clean_front ls) []) ++ rest)
-clean_rest true l more ls h = (more, ap (λ xs. l ++ xs) h ∙ sym (append_assoc l (concat (clean_front ls)) more))
-clean_rest false l more ls h = (l ++ concat ls, refl)
-
-clean_front-rest : (ls : List (List ℕ)) → (rest : List ℕ) × (concat ls ≡ concat (clean_front ls) ++ rest)
-clean_front-rest [] = ([], refl)
-clean_front-rest (l ∷ ls) = let below = clean_front-rest ls in clean_rest (is_clean l) l below.0 ls below.1
-
-by_line-readable : (bs : List ℕ) → by_line bs (tokens_of (readable_text bs)) ≡ token_lines (readable_text bs)
-by_line-readable bs =
-    let rest = clean_front-rest (text_lines bs) in
-    by_line-tokens_of bs (readable_text bs) rest.0 (sym (concat-text_lines bs) ∙ rest.1)
-
-token_bytes-readable : (bs : List ℕ) → token_bytes bs (tokens_of (readable_text bs)) ≡ shown_bytes (readable_text bs)
-token_bytes-readable bs =
-    let rest = clean_front-rest (text_lines bs) in
-    token_bytes-tokens_of bs (readable_text bs) rest.0 (sym (concat-text_lines bs) ∙ rest.1)
-
-AreApart-readable : (bs : List ℕ) → AreApart 0 (tokens_of (readable_text bs)) (length bs)
-AreApart-readable bs =
-    let rest = clean_front-rest (text_lines bs) in
-    let whole = ap length (sym (concat-text_lines bs) ∙ rest.1) in
-    let parts = length-append (readable_text bs) rest.0 in
-    AreApart-later 0 (length (readable_text bs)) (length bs) (tokens_of (readable_text bs)) (omega (arith, whole, parts)) (AreApart-tokens_of (readable_text bs))
-
--- what is known of the tokens and the lines of the readable text
-pub record IsReadable (bs : List ℕ) (ts : List Token) (n : ℕ) : Type 0 where
-  pub tokens : ts ≡ tokens_of (readable_text bs)
-  pub apart : AreApart 0 ts (length bs)
-  pub shown : token_bytes bs ts ≡ shown_bytes (readable_text bs)
-  pub words : by_line bs ts ≡ token_lines (readable_text bs)
-  pub count : n ≡ line_count (readable_text bs)
-
-pub IsReadable-from_lines : (bs : List ℕ) (ts : List Token) (count : ℕ)
-    → ts ≡ tokens_of_lines 1 0 (clean_front (text_lines bs)) → count ≡ length (clean_front (text_lines bs)) → IsReadable bs ts count
-IsReadable-from_lines bs ts count told counted =
-    let all : ts ≡ tokens_of (readable_text bs) = told ∙ ap (tokens_of_lines 1 0) (sym (text_lines-readable bs)) in
-    record {
-      tokens = all;
-      apart = subst (λ us. AreApart 0 us (length bs)) (sym all) (AreApart-readable bs);
-      shown = ap (token_bytes bs) all ∙ token_bytes-readable bs;
-      words = ap (by_line bs) all ∙ by_line-readable bs;
-      count = counted ∙ ap length (sym (text_lines-readable bs)) ∙ length-text_lines (readable_text bs);
-    }

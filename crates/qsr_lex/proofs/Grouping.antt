@@ -7,7 +7,7 @@ use Rattle.qsr_lex.specs.Bytes.{is_blank}
 use Rattle.qsr_lex.specs.TextLines.{text_lines, outside}
 use Rattle.qsr_lex.specs.Lexemes.{Lexeme, lexemes, lexemes_after, tail_len, kind_of}
 use Rattle.qsr_lex.specs.Tokens.{tokens_after, tokens_of_lines, tokens_of}
-use Rattle.qsr_lex.specs.TokenLines.{TokenLine, add_line, add_word, by_line, lexeme_of, token_lines, token_lines_from}
+use Rattle.qsr_lex.specs.TokenLines.{TokenLine, add_line, add_lexeme, by_line, lexeme_of, token_lines, token_lines_from}
 use Rattle.qsr_lex.specs.declared.tokens.Token.{Token}
 use Rattle.qsr_lex.proofs.Scanning.{outside-take}
 use Rattle.qsr_lex.proofs.Spans.{concat-text_lines, tail_len-le}
@@ -32,12 +32,12 @@ same_number n = grind (arith, nat_tests)
 other_number : (m n : ℕ) → n < m → (m == n) ≡ false
 other_number m n h = grind (arith, nat_tests)
 
-add_word-add_line : (n : ℕ) (x : Lexeme) (ys : List Lexeme) (ls : List TokenLine) → AreAfter n ls → add_word n x (add_line n ys ls) ≡ add_line n (x ∷ ys) ls
-add_word-add_line n x [] [] h = refl
-add_word-add_line n x [] (l ∷ ls) h =
-    ap (λ c. cond c (record { number = n; words = x ∷ l.words } ∷ ls) (record { number = n; words = x ∷ [] } ∷ l ∷ ls)) (other_number l.number n h)
-add_word-add_line n x (y ∷ ys) ls h =
-    ap (λ c. cond c (record { number = n; words = x ∷ y ∷ ys } ∷ ls) (record { number = n; words = x ∷ [] } ∷ record { number = n; words = y ∷ ys } ∷ ls)) (same_number n)
+add_lexeme-add_line : (n : ℕ) (x : Lexeme) (ys : List Lexeme) (ls : List TokenLine) → AreAfter n ls → add_lexeme n x (add_line n ys ls) ≡ add_line n (x ∷ ys) ls
+add_lexeme-add_line n x [] [] h = refl
+add_lexeme-add_line n x [] (l ∷ ls) h =
+    ap (λ c. cond c (record { number = n; tokens = x ∷ l.tokens } ∷ ls) (record { number = n; tokens = x ∷ [] } ∷ l ∷ ls)) (other_number l.number n h)
+add_lexeme-add_line n x (y ∷ ys) ls h =
+    ap (λ c. cond c (record { number = n; tokens = x ∷ y ∷ ys } ∷ ls) (record { number = n; tokens = x ∷ [] } ∷ record { number = n; tokens = y ∷ ys } ∷ ls)) (same_number n)
 
 -- what follows the next byte
 pub drop_next : (at b : ℕ) (whole rest : List ℕ) → drop at whole ≡ b ∷ rest → drop (at + 1) whole ≡ rest
@@ -55,10 +55,10 @@ by_line-here : (c : Bool) (whole : List ℕ) (n : ℕ) (t : Token) (y : Lexeme) 
     → by_line whole ((cond c [] (t ∷ []) ++ ts) ++ us) ≡ add_line n (cond c [] (y ∷ []) ++ ys) ls
 by_line-here true whole n t y ts us ys ls same_line text told after = told
 by_line-here false whole n t y ts us ys ls same_line text told after =
-    ap (λ m. add_word m (lexeme_of whole t) (by_line whole (ts ++ us))) same_line
-    ∙ ap (λ x. add_word n x (by_line whole (ts ++ us))) text
-    ∙ ap (add_word n y) told
-    ∙ add_word-add_line n y ys ls after
+    ap (λ m. add_lexeme m (lexeme_of whole t) (by_line whole (ts ++ us))) same_line
+    ∙ ap (λ x. add_lexeme n x (by_line whole (ts ++ us))) text
+    ∙ ap (add_lexeme n y) told
+    ∙ add_lexeme-add_line n y ys ls after
 
 by_line-part : (whole : List ℕ) (n at skip : ℕ) (part more : List ℕ) (us : List Token) (ls : List TokenLine)
     → drop at whole ≡ part ++ more → by_line whole us ≡ ls → AreAfter n ls

@@ -7,8 +7,8 @@ use Rattle.std.specs.Str.{IsAscii}
 use Rattle.std.proofs.lemmas.Bool.Decides.{nat_tests}
 use Rattle.qsr_lex.specs.Bytes.{is_allowed, is_word_byte}
 use Rattle.qsr_lex.specs.Lexemes.{kind_of, starts_with_colon}
-use Rattle.qsr_lex.specs.Names.{is_name, is_name_byte, starts_with_digit, is_stop}
-use Rattle.qsr_lex.specs.Words.{is_same_kind, is_name_token, names_before_close}
+use Rattle.qsr_lex.specs.Names.{is_name, is_name_byte, starts_with_digit, is_end_mark}
+use Rattle.qsr_lex.specs.LineTokens.{is_same_kind, is_name_token, names_until_close}
 use Rattle.qsr_lex.specs.Printed.{is_mark_text, is_word_char, is_token_text, lexeme_from, IsPrintedName, IsPrintedSet}
 use Rattle.qsr_lex.specs.declared.tokens.TokenKind.TheVariants.{Word, Open, Close, Comma, Colon, Colons, Stop}
 use Rattle.qsr_lex.proofs.PrintedText.{word_run}
@@ -17,7 +17,7 @@ use Rattle.qsr_lex.proofs.PrintedText.{word_run}
 pub record IsNameText (w : List ℕ) : Type 0 where
   pub some : nat_le 1 (length w) ≡ true
   pub word : list_all is_word_char w ≡ true
-  pub no_stop : is_stop w ≡ false
+  pub no_stop : is_end_mark w ≡ false
 
 name_chars : (w : List ℕ) → list_all is_name_byte w ≡ true → list_all is_word_char w ≡ true
 name_chars [] h = refl
@@ -31,13 +31,13 @@ false_from_not false h = refl
 
 pub IsNameText-from_test : (w : List ℕ) → is_name w ≡ true → IsNameText w
 IsNameText-from_test w h =
-    let outer = and_parts (nat_le 1 (length w) && nat_le (length w) 64 && list_all is_name_byte w && not (starts_with_digit w)) (not (is_stop w)) h in
+    let outer = and_parts (nat_le 1 (length w) && nat_le (length w) 64 && list_all is_name_byte w && not (starts_with_digit w)) (not (is_end_mark w)) h in
     let digit = and_parts (nat_le 1 (length w) && nat_le (length w) 64 && list_all is_name_byte w) (not (starts_with_digit w)) outer.0 in
     let chars = and_parts (nat_le 1 (length w) && nat_le (length w) 64) (list_all is_name_byte w) digit.0 in
     record {
       some = (and_parts (nat_le 1 (length w)) (nat_le (length w) 64) chars.0).0;
       word = name_chars w chars.1;
-      no_stop = false_from_not (is_stop w) outer.1;
+      no_stop = false_from_not (is_end_mark w) outer.1;
     }
 
 -- a name is ASCII
@@ -70,7 +70,7 @@ no_mark b h = (grind (arith, nat_tests), grind (arith, nat_tests), grind (arith,
 zero_test : (n : ℕ) → (n == 0) ≡ nat_le n 0
 zero_test n = grind (arith, nat_tests)
 
-word_kind : (b : ℕ) (bs : List ℕ) → list_all is_word_char (b ∷ bs) ≡ true → is_stop (b ∷ bs) ≡ false → kind_of (b ∷ bs) ≡ Word
+word_kind : (b : ℕ) (bs : List ℕ) → list_all is_word_char (b ∷ bs) ≡ true → is_end_mark (b ∷ bs) ≡ false → kind_of (b ∷ bs) ≡ Word
 word_kind b bs h no_stop =
     let parts = and_parts (is_word_char b) (list_all is_word_char bs) h in
     let facts = no_mark b (and_parts (is_allowed b) (is_word_byte b) parts.0).1 in
@@ -85,7 +85,7 @@ word_kind b bs h no_stop =
     ∙ ap (λ c. cond c (cond colon Colons Colon) last) facts.3
     ∙ ap (λ c. cond c Stop Word) stop
 
-pub kind_of-word : (w : List ℕ) → list_all is_word_char w ≡ true → is_stop w ≡ false → kind_of w ≡ Word
+pub kind_of-word : (w : List ℕ) → list_all is_word_char w ≡ true → is_end_mark w ≡ false → kind_of w ≡ Word
 kind_of-word [] h no_stop = refl
 kind_of-word (b ∷ bs) h no_stop = word_kind b bs h no_stop
 
@@ -99,17 +99,17 @@ IsPrintedName-from_test w h =
     }
 
 -- a printed set of names is read as these names
-names_before_close-printed : (names rest : List (List ℕ)) → list_all is_name names ≡ true
-    → names_before_close (map lexeme_from (names ++ (41 ∷ []) ∷ rest)) ≡ Some (names, map lexeme_from rest)
-names_before_close-printed [] rest h = refl
-names_before_close-printed (w ∷ names) rest h =
+names_until_close-printed : (names rest : List (List ℕ)) → list_all is_name names ≡ true
+    → names_until_close (map lexeme_from (names ++ (41 ∷ []) ∷ rest)) ≡ Some (names, map lexeme_from rest)
+names_until_close-printed [] rest h = refl
+names_until_close-printed (w ∷ names) rest h =
     let parts = and_parts (is_name w) (list_all is_name names) h in
     let is = IsNameText-from_test w parts.0 in
-    let below = names_before_close (map lexeme_from (names ++ (41 ∷ []) ∷ rest)) in
+    let below = names_until_close (map lexeme_from (names ++ (41 ∷ []) ∷ rest)) in
     ap (λ k. cond (is_same_kind k Close) (Some ([], map lexeme_from (names ++ (41 ∷ []) ∷ rest)))
     (cond (is_name_token (lexeme_from w)) (option_map (λ found. (w ∷ found.0, found.1)) below) None)) (kind_of-word w is.word is.no_stop)
     ∙ ap (λ c. cond c (option_map (λ found. (w ∷ found.0, found.1)) below) None) (IsPrintedName-from_test w parts.0).word
-    ∙ ap (option_map (λ found. (w ∷ found.0, found.1))) (names_before_close-printed names rest parts.1)
+    ∙ ap (option_map (λ found. (w ∷ found.0, found.1))) (names_until_close-printed names rest parts.1)
 
 pub IsPrintedSet-from_tests : (names rest : List (List ℕ)) → list_all is_name names ≡ true → IsPrintedSet names rest
-IsPrintedSet-from_tests names rest h = record { read = names_before_close-printed names rest h }
+IsPrintedSet-from_tests names rest h = record { read = names_until_close-printed names rest h }

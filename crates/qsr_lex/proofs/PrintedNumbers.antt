@@ -8,7 +8,7 @@ use Rattle.std.proofs.lemmas.Bool.Decides.{nat_tests}
 use Rattle.std.proofs.lemmas.Fmt.{decimal_is_IsNumeral, length-decimal-le}
 use Rattle.std.proofs.lemmas.Str.Parse.{digit_from_value}
 use Rattle.qsr_lex.specs.Numbers.{are_digits}
-use Rattle.qsr_lex.specs.Names.{is_stop}
+use Rattle.qsr_lex.specs.Names.{is_end_mark}
 use Rattle.qsr_lex.specs.Printed.{is_word_char, IsPrintedNumber}
 use Rattle.qsr_lex.proofs.PrintedNames.{word_is_token, kind_of-word}
 
@@ -26,7 +26,7 @@ digits_are_word : (ds : List ℕ) → AllDigits 10 ds → list_all is_word_char 
 digits_are_word [] h = refl
 digits_are_word (b ∷ bs) h = ap (λ c. c && list_all is_word_char bs) (digit_char b h.0).1 ∙ digits_are_word bs h.1
 
-digits_no_stop : (ds : List ℕ) → AllDigits 10 ds → is_stop ds ≡ false
+digits_no_stop : (ds : List ℕ) → AllDigits 10 ds → is_end_mark ds ≡ false
 digits_no_stop [] h = refl
 digits_no_stop (b ∷ bs) h = ap (λ c. c && nat_le (length bs) 0) (digit_char b h.0).2
 

@@ -4,19 +4,16 @@ use Rattle.std.specs.List.{list_all, prefix_len}
 use Rattle.std.proofs.lemmas.List.{take_at, append-nil, length-map}
 use Rattle.std.proofs.lemmas.Bool.{and_parts}
 use Rattle.std.proofs.lemmas.Bool.Decides.{nat_tests}
-use Rattle.qsr_lex.specs.Bytes.{is_lf, is_hash, is_blank, is_mark, is_allowed, is_word_byte}
-use Rattle.qsr_lex.specs.TextLines.{add_byte, text_lines, starts_with_lf, starts_with_end, outside, is_clean, bad_line_from}
+use Rattle.qsr_lex.specs.Bytes.{is_hash, is_blank, is_mark, is_allowed, is_plain, is_word_byte}
+use Rattle.qsr_lex.specs.TextLines.{add_byte, text_lines, outside, is_clean, bad_line_from}
 use Rattle.qsr_lex.specs.Lexemes.{lexemes, lexemes_after, tail_len, kind_of, starts_with_colon}
 use Rattle.qsr_lex.specs.declared.tokens.TokenKind.{TokenKind}
 use Rattle.qsr_lex.specs.declared.tokens.TokenKind.TheVariants.{Word, Open, Close, Comma, Colon, Colons, Stop}
 use Rattle.qsr_lex.specs.TokenLines.{token_lines_from, add_line}
 use Rattle.qsr_lex.proofs.Scanning.{add_byte-lf}
 use Rattle.qsr_lex.proofs.Spans.{length-text_lines}
+use Rattle.qsr_lex.proofs.FirstLines.{plain_byte, no_end}
 use Rattle.qsr_lex.specs.Printed.{is_mark_text, is_word_char, is_token_text, are_tokens, lexeme_from, IsReadAgain, spaced, printed_line, printed, printed_token_lines}
-
--- a byte outside comments that begins none and is allowed
-abbrev is_plain : ℕ → Bool
-is_plain b = is_allowed b && not (is_hash b)
 
 -- no token goes on here: the text ends, or a blank follows
 record Ends (rest : List ℕ) : Type 0 where
@@ -189,16 +186,6 @@ plain_spaced (w ∷ v ∷ ws) h =
     let parts = and_parts (is_token_text w) (are_tokens (v ∷ ws)) h in
     all_append is_plain w (32 ∷ spaced (v ∷ ws)) (plain_token w parts.0) (plain_spaced (v ∷ ws) parts.1)
 
-plain_byte : (b : ℕ) → is_plain b ≡ true → (is_lf b ≡ false) × (is_hash b ≡ false) × ((b == 13) ≡ false) × (is_allowed b ≡ true)
-plain_byte b h = (grind (arith, nat_tests), grind (arith, nat_tests), grind (arith, nat_tests), grind (arith, nat_tests))
-
-no_end : (b : ℕ) (bs : List ℕ) → is_plain b ≡ true → starts_with_end (b ∷ bs) ≡ false
-no_end b bs h =
-    let facts = plain_byte b h in
-    ap (λ c. c || is_hash b || ((b == 13) && starts_with_lf bs)) facts.0
-    ∙ ap (λ c. c || ((b == 13) && starts_with_lf bs)) facts.1
-    ∙ ap (λ c. c && starts_with_lf bs) facts.2
-
 outside-plain : (bs : List ℕ) → list_all is_plain bs ≡ true → outside (bs ++ 10 ∷ []) ≡ bs
 outside-plain [] h = refl
 outside-plain (b ∷ bs) h =
@@ -252,5 +239,5 @@ IsReadAgain-from_tokens text h =
     record {
       clean = ap (bad_line_from 1) cut ∙ bad_line-printed 1 text h;
       count = sym (length-text_lines (printed text)) ∙ ap length cut ∙ length-map text printed_line;
-      words = ap (token_lines_from 1) cut ∙ token_lines-printed 1 text h;
+      lines = ap (token_lines_from 1) cut ∙ token_lines-printed 1 text h;
     }

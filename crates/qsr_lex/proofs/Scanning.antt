@@ -1,8 +1,7 @@
 -- How the lines of a text and the tokens of a line come off its front.
-use Rattle.std.proofs.Common.{◌≡◌, ℕ, zero, suc, ◌+◌, ◌<◌, ◌≤◌, Bool, true, false, cond, List, [], ◌∷◌, ◌++◌, length, take, drop, get_or, Some, None, refl, sym, ◌∙◌, ap, arith, append_assoc}
-use Rattle.std.proofs.lemmas.List.{drop_more, append-nil}
+use Rattle.std.proofs.Common.{◌≡◌, ℕ, zero, suc, ◌+◌, ◌<◌, ◌≤◌, Bool, true, false, cond, List, [], ◌∷◌, ◌++◌, length, take, drop, Some, refl, sym, ◌∙◌, ap, arith, append_assoc}
 use Rattle.qsr_lex.specs.Bytes.{is_lf}
-use Rattle.qsr_lex.specs.TextLines.{add_byte, text_lines, first_line_len, starts_with_end, outside, is_clean, clean_front, bad_line_from}
+use Rattle.qsr_lex.specs.TextLines.{add_byte, text_lines, first_line_len, first_line, after_first_line, starts_with_end, outside, is_clean, bad_line_from, IsFirstLine}
 use Rattle.qsr_lex.specs.Lexemes.{tail_len}
 use Rattle.qsr_lex.specs.Tokens.{token_here, tokens_after, tokens_of_lines}
 use Rattle.qsr_lex.specs.declared.tokens.Token.{Token}
@@ -79,66 +78,39 @@ pub first_line_len-pos : (bs : List ℕ) → 0 < length bs → 0 < first_line_le
 first_line_len-pos [] h = absurd (omega arith)
 first_line_len-pos (b ∷ bs) h = (line_len-byte (is_lf b) b (first_line_len bs) bs (first_line_len-le bs)).0
 
--- one more byte outside comments
-length_outside-front : (b : ℕ) (bs : List ℕ) → starts_with_end (b ∷ bs) ≡ false → length (outside (b ∷ bs)) ≡ 1 + length (outside bs)
-length_outside-front b bs h =
-    let further : suc (length (outside bs)) ≡ 1 + length (outside bs) = omega arith in
-    ap (λ c. length (cond c [] (b ∷ outside bs))) h ∙ further
-
-pub length_outside-drop : (xs : List ℕ) (i : ℕ) → i < length xs → starts_with_end (drop i xs) ≡ false → length (outside (drop i xs)) ≡ 1 + length (outside (drop (i + 1) xs))
-length_outside-drop xs i within open_part =
-    let e = drop_more xs i 0 within in
-    ap (λ ys. length (outside ys)) e ∙ length_outside-front (get_or xs i 0) (drop (i + 1) xs) (ap starts_with_end (sym e) ∙ open_part)
-
--- the next line is clean, so the clean lines are that one and those after it
-clean_front-step : (rest line after : List ℕ) → 0 < length rest
-    → line ≡ take (first_line_len rest) rest → after ≡ drop (first_line_len rest) rest
-    → is_clean line ≡ true → clean_front (text_lines rest) ≡ line ∷ clean_front (text_lines after)
-clean_front-step rest line after some is_line is_after clean =
-    ap clean_front (text_lines-front rest some ∙ ap (λ l. l ∷ text_lines (drop (first_line_len rest) rest)) (sym is_line) ∙ ap (λ bs. line ∷ text_lines bs) (sym is_after))
-    ∙ ap (λ c. cond c (line ∷ clean_front (text_lines after)) []) clean
-
--- the next line is bad, so no clean ones follow
-pub clean_front-none : (rest line : List ℕ) → 0 < length rest
-    → line ≡ take (first_line_len rest) rest → is_clean line ≡ false → clean_front (text_lines rest) ≡ []
-clean_front-none rest line some is_line bad =
-    let after = text_lines (drop (first_line_len rest) rest) in
-    ap clean_front (text_lines-front rest some ∙ ap (λ l. l ∷ after) (sym is_line)) ∙ ap (λ c. cond c (line ∷ clean_front after) []) bad
-
 -- the tokens so far, those of the next line, and those of the lines after it
-pub tokens-step : (sofar now all : List Token) (n at next : ℕ) (rest line part after : List ℕ)
-    → sofar ++ tokens_of_lines n at (clean_front (text_lines rest)) ≡ all → 0 < length rest
-    → line ≡ take (first_line_len rest) rest → after ≡ drop (first_line_len rest) rest → is_clean line ≡ true
-    → part ≡ outside line → next ≡ at + length line
-    → now ≡ sofar ++ tokens_after n at 0 part → now ++ tokens_of_lines (n + 1) next (clean_front (text_lines after)) ≡ all
-tokens-step sofar now all n at next rest line part after told some is_line is_after clean is_part is_next pushed =
-    let front = ap (tokens_of_lines n at) (clean_front-step rest line after some is_line is_after clean) in
-    let regrouped = append_assoc sofar (tokens_after n at 0 part) (tokens_of_lines (n + 1) next (clean_front (text_lines after))) in
+pub tokens-step : (sofar now all : List Token) (n at next : ℕ) (rest part after : List ℕ)
+    → sofar ++ tokens_of_lines n at (text_lines rest) ≡ all → 0 < length rest → IsFirstLine rest part after
+    → next ≡ at + length (first_line rest)
+    → now ≡ sofar ++ tokens_after n at 0 part → now ++ tokens_of_lines (n + 1) next (text_lines after) ≡ all
+tokens-step sofar now all n at next rest part after told some is is_next pushed =
+    let front : tokens_of_lines n at (text_lines rest) ≡ tokens_after n at 0 part ++ tokens_of_lines (n + 1) next (text_lines after) =
+    ap (tokens_of_lines n at) (text_lines-front rest some)
+    ∙ ap (λ p. tokens_after n at 0 p ++ tokens_of_lines (n + 1) (at + length (first_line rest)) (text_lines (after_first_line rest))) (sym is.is_part)
+    ∙ ap (λ k. tokens_after n at 0 part ++ tokens_of_lines (n + 1) k (text_lines (after_first_line rest))) (sym is_next)
+    ∙ ap (λ bs. tokens_after n at 0 part ++ tokens_of_lines (n + 1) next (text_lines bs)) (sym is.is_after) in
+    let regrouped = append_assoc sofar (tokens_after n at 0 part) (tokens_of_lines (n + 1) next (text_lines after)) in
     cc (front, regrouped)
 
 -- the next line is clean, so a bad one comes after it
-pub bad-step : (n : ℕ) (rest line after : List ℕ) → 0 < length rest
-    → line ≡ take (first_line_len rest) rest → after ≡ drop (first_line_len rest) rest
-    → is_clean line ≡ true → bad_line_from n (text_lines rest) ≡ bad_line_from (n + 1) (text_lines after)
-bad-step n rest line after some is_line is_after clean =
+pub bad-step : (n : ℕ) (rest part after : List ℕ) → 0 < length rest → IsFirstLine rest part after
+    → bad_line_from n (text_lines rest) ≡ bad_line_from (n + 1) (text_lines after)
+bad-step n rest part after some is =
     ap (bad_line_from n) (text_lines-front rest some)
-    ∙ ap (λ c. cond c (bad_line_from (n + 1) (text_lines (drop (first_line_len rest) rest))) (Some n)) (ap is_clean (sym is_line) ∙ clean)
-    ∙ ap (λ bs. bad_line_from (n + 1) (text_lines bs)) (sym is_after)
+    ∙ ap (λ c. cond c (bad_line_from (n + 1) (text_lines (after_first_line rest))) (Some n)) is.clean
+    ∙ ap (λ bs. bad_line_from (n + 1) (text_lines bs)) (sym is.is_after)
 
 -- the next line is bad
-pub bad-here : (n : ℕ) (rest line : List ℕ) → 0 < length rest → line ≡ take (first_line_len rest) rest
-    → is_clean line ≡ false → bad_line_from n (text_lines rest) ≡ Some n
-bad-here n rest line some is_line bad =
+pub bad-here : (n : ℕ) (rest : List ℕ) → 0 < length rest → is_clean (first_line rest) ≡ false → bad_line_from n (text_lines rest) ≡ Some n
+bad-here n rest some bad =
     ap (bad_line_from n) (text_lines-front rest some)
-    ∙ ap (λ c. cond c (bad_line_from (n + 1) (text_lines (drop (first_line_len rest) rest))) (Some n)) (ap is_clean (sym is_line) ∙ bad)
+    ∙ ap (λ c. cond c (bad_line_from (n + 1) (text_lines (after_first_line rest))) (Some n)) bad
 
 -- one line more
-pub count-step : (rest line after : List ℕ) → 0 < length rest
-    → line ≡ take (first_line_len rest) rest → after ≡ drop (first_line_len rest) rest → is_clean line ≡ true
-    → length (clean_front (text_lines rest)) ≡ 1 + length (clean_front (text_lines after))
-count-step rest line after some is_line is_after clean =
-    let further : suc (length (clean_front (text_lines after))) ≡ 1 + length (clean_front (text_lines after)) = omega arith in
-    ap length (clean_front-step rest line after some is_line is_after clean) ∙ further
+pub count-step : (rest part after : List ℕ) → 0 < length rest → IsFirstLine rest part after → length (text_lines rest) ≡ 1 + length (text_lines after)
+count-step rest part after some is =
+    let further : suc (length (text_lines after)) ≡ 1 + length (text_lines after) = omega arith in
+    ap length (text_lines-front rest some) ∙ ap (λ bs. suc (length (text_lines bs))) (sym is.is_after) ∙ further
 
 -- the tokens so far, the one at the front, and those after it
 pub line_tokens-step : (sofar now all : List Token) (n at taken : ℕ) (rest after : List ℕ)
@@ -151,16 +123,6 @@ line_tokens-step sofar now all n at taken rest after told some is_taken is_after
     cc (front, regrouped)
 
 -- nothing is left
-pub tokens-all : (sofar all : List Token) (n at : ℕ) (ls : List (List ℕ)) → ls ≡ [] → sofar ++ tokens_of_lines n at ls ≡ all → sofar ≡ all
-tokens-all sofar all n at ls none told = sym (append-nil sofar) ∙ ap (λ ks. sofar ++ tokens_of_lines n at ks) (sym none) ∙ told
-
-pub count-all : (count all : ℕ) (ls : List (List ℕ)) → ls ≡ [] → count + length ls ≡ all → count ≡ all
-count-all count all ls none told = let e = ap length none in omega (arith, e)
-
-pub clean_front-end : (rest : List ℕ) → length rest ≡ 0 → clean_front (text_lines rest) ≡ []
-clean_front-end [] h = refl
-clean_front-end (b ∷ bs) h = absurd (omega arith)
-
-pub bad-end : (n : ℕ) (rest : List ℕ) → length rest ≡ 0 → None ≡ bad_line_from n (text_lines rest)
-bad-end n [] h = refl
-bad-end n (b ∷ bs) h = absurd (omega arith)
+pub none_left : (rest : List ℕ) → length rest ≡ 0 → rest ≡ []
+none_left [] h = refl
+none_left (b ∷ bs) h = absurd (omega arith)

@@ -5,6 +5,6 @@ pub mod TextLines
 pub mod Lexemes
 pub mod Tokens
 pub mod TokenLines
-pub mod Words
+pub mod LineTokens
 pub mod Printed
 pub mod Stops

@@ -1,10 +1,10 @@
 -- Texts as they are printed: one space between tokens, and an LF at the end of each line.
-use Rattle.std.specs.Prelude.{◌≡◌, ℕ, zero, suc, ◌+◌, List, [], ◌∷◌, ◌++◌, Bool, true, false, ◌&&◌, ◌||◌, ◌==◌, nat_le, length, map, decimal, slice_get, unwrap_or, codes, Some, None}
+use Rattle.std.specs.Prelude.{◌≡◌, ℕ, zero, suc, ◌+◌, List, [], ◌∷◌, ◌++◌, Bool, true, false, ◌&&◌, ◌||◌, nat_le, length, map, decimal, slice_get, unwrap_or, codes, Some, None}
 use Rattle.std.specs.List.{list_all, flat_map}
-use Rattle.qsr_lex.specs.Bytes.{is_allowed, is_mark, is_word_byte}
+use Rattle.qsr_lex.specs.Bytes.{space, is_allowed, is_mark, is_colon, is_word_byte}
 use Rattle.qsr_lex.specs.Lexemes.{Lexeme, kind_of}
 use Rattle.qsr_lex.specs.Numbers.{number_of}
-use Rattle.qsr_lex.specs.Words.{is_name_token, names_at}
+use Rattle.qsr_lex.specs.LineTokens.{is_name_token, names_at}
 use Rattle.qsr_lex.specs.declared.tokens.TokenKind.TheVariants.{Word}
 use Rattle.qsr_lex.specs.TokenLines.{TokenLine, add_line, token_lines}
 use Rattle.qsr_lex.specs.TextLines.{bad_line, line_count}
@@ -13,7 +13,7 @@ use Rattle.qsr_lex.specs.TextLines.{bad_line, line_count}
 abbrev pub is_mark_text : List ℕ → Bool
 is_mark_text [] = false
 is_mark_text (b ∷ []) = is_mark b
-is_mark_text (b ∷ c ∷ bs) = b == 58 && c == 58 && nat_le (length bs) 0
+is_mark_text (b ∷ c ∷ bs) = is_colon b && is_colon c && nat_le (length bs) 0
 
 -- a byte that may stand in a word
 abbrev pub is_word_char : ℕ → Bool
@@ -25,7 +25,7 @@ is_token_text text = is_mark_text text || (nat_le 1 (length text) && list_all is
 
 -- each text is one token
 abbrev pub are_tokens : List (List ℕ) → Bool
-are_tokens words = list_all is_token_text words
+are_tokens texts = list_all is_token_text texts
 
 -- the token with this text
 abbrev pub lexeme_from : List ℕ → Lexeme
@@ -35,11 +35,11 @@ lexeme_from text = record { kind = kind_of text; text = text }
 abbrev pub spaced : List (List ℕ) → List ℕ
 spaced [] = []
 spaced (w ∷ []) = w
-spaced (w ∷ v ∷ ws) = w ++ 32 ∷ spaced (v ∷ ws)
+spaced (w ∷ v ∷ ws) = w ++ space ∷ spaced (v ∷ ws)
 
 -- a line of tokens, with its LF
 abbrev pub printed_line : List (List ℕ) → List ℕ
-printed_line words = spaced words ++ 10 ∷ []
+printed_line texts = spaced texts ++ codes "\n"
 
 -- lines of tokens
 abbrev pub printed : List (List (List ℕ)) → List ℕ
@@ -57,13 +57,13 @@ word_text names k = unwrap_or (slice_get names k) [] ++ codes " "
 -- the lines of tokens that have any, where the first line has the number n
 abbrev pub printed_token_lines : ℕ → List (List (List ℕ)) → List TokenLine
 printed_token_lines n [] = []
-printed_token_lines n (words ∷ rest) = add_line n (map lexeme_from words) (printed_token_lines (n + 1) rest)
+printed_token_lines n (texts ∷ rest) = add_line n (map lexeme_from texts) (printed_token_lines (n + 1) rest)
 
 -- what is printed of these tokens is read as these tokens
 pub record IsReadAgain (text : List (List (List ℕ))) : Type 0 where
   pub clean : bad_line (printed text) ≡ None
   pub count : line_count (printed text) ≡ length text
-  pub words : token_lines (printed text) ≡ printed_token_lines 1 text
+  pub lines : token_lines (printed text) ≡ printed_token_lines 1 text
 
 -- a name that is printed is one token, and a name
 pub record IsPrintedName (name : List ℕ) : Type 0 where
@@ -72,7 +72,7 @@ pub record IsPrintedName (name : List ℕ) : Type 0 where
 
 -- names that are printed in brackets, in front of other tokens, are read as these names
 pub record IsPrintedSet (names rest : List (List ℕ)) : Type 0 where
-  pub read : names_at (map lexeme_from ((40 ∷ []) ∷ names ++ (41 ∷ []) ∷ rest)) ≡ Some (names, map lexeme_from rest)
+  pub read : names_at (map lexeme_from (codes "(" ∷ names ++ codes ")" ∷ rest)) ≡ Some (names, map lexeme_from rest)
 
 -- a number that is printed is one token, a word, and read as that number
 pub record IsPrintedNumber (n : ℕ) : Type 0 where

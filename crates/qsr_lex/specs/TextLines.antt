@@ -1,7 +1,7 @@
 -- The lines of a text, and what of each stands outside comments.
-use Rattle.std.specs.Prelude.{ℕ, ◌+◌, List, [], ◌∷◌, Bool, true, false, not, count_by, ◌&&◌, ◌||◌, ◌==◌, Option, Some, None, if◌then◌else◌}
+use Rattle.std.specs.Prelude.{◌≡◌, ℕ, ◌+◌, List, [], ◌∷◌, Bool, true, false, not, count_by, take, drop, ◌&&◌, ◌||◌, Option, Some, None, if◌then◌else◌}
 use Rattle.std.specs.List.{list_all, flat_map}
-use Rattle.qsr_lex.specs.Bytes.{is_lf, is_hash, is_allowed}
+use Rattle.qsr_lex.specs.Bytes.{is_lf, is_cr, is_hash, is_allowed}
 
 -- one byte more in front of the lines: an LF is a line of its own, any other byte belongs to the line after it
 abbrev pub add_byte : ℕ → List (List ℕ) → List (List ℕ)
@@ -28,6 +28,14 @@ abbrev pub first_line_len : List ℕ → ℕ
 first_line_len [] = 0
 first_line_len (b ∷ bs) = if is_lf b then 1 else 1 + first_line_len bs
 
+-- the first line, with its LF
+abbrev pub first_line : List ℕ → List ℕ
+first_line bytes = take (first_line_len bytes) bytes
+
+-- what stands after the first line
+abbrev pub after_first_line : List ℕ → List ℕ
+after_first_line bytes = drop (first_line_len bytes) bytes
+
 -- an LF is next
 abbrev pub starts_with_lf : List ℕ → Bool
 starts_with_lf [] = false
@@ -36,7 +44,15 @@ starts_with_lf (b ∷ bs) = is_lf b
 -- a line's end is next, with or without a CR before the LF, or a comment
 abbrev pub starts_with_end : List ℕ → Bool
 starts_with_end [] = true
-starts_with_end (b ∷ bs) = is_lf b || is_hash b || (b == 13 && starts_with_lf bs)
+starts_with_end (b ∷ bs) = is_lf b || is_hash b || (is_cr b && starts_with_lf bs)
+
+-- what stands after the end of a line that begins here, with a comment before it or without; none where none begins
+abbrev pub after_end : List ℕ → Option (List ℕ)
+after_end [] = Some []
+after_end (b ∷ bs) =
+    if is_lf b then Some bs
+    else (if is_hash b then Some (drop (first_line_len (b ∷ bs)) (b ∷ bs))
+    else (if is_cr b && starts_with_lf bs then Some (drop 1 bs) else None))
 
 -- what of a line stands outside comments: the bytes before its end or its first `#`
 abbrev pub outside : List ℕ → List ℕ
@@ -64,3 +80,9 @@ clean_front (l ∷ ls) = if is_clean l then l ∷ clean_front ls else []
 -- the bytes that stand before the first line with a byte that isn't allowed: the whole text where there is none
 abbrev pub readable_text : List ℕ → List ℕ
 readable_text bytes = flat_map (λ l. l) (clean_front (text_lines bytes))
+
+-- the first line of a text has no byte that isn't allowed, this part of it stands outside its comment, and this after it
+pub record IsFirstLine (text part after : List ℕ) : Type 0 where
+  pub clean : is_clean (first_line text) ≡ true
+  pub is_part : part ≡ outside (first_line text)
+  pub is_after : after ≡ after_first_line text

@@ -1,24 +1,26 @@
 //! The bytes of a text, and what each may be part of.
 ghost use Rattle.std.specs.Prelude.{◌≡◌};
-ghost use Rattle.qsr_lex.specs.Bytes.{is_blank, is_allowed, is_word_byte};
+ghost use Rattle.qsr_lex.specs.Bytes.{is_blank, is_plain, is_word_byte};
 
-/// A space or a tab.
+/// Whether a byte is a space or a tab.
 pub(crate) fn is_blank(byte: u8) -> bool
     ensures { result ≡ is_blank byte }
 {
     matches!(byte, b' ' | b'\t')
 }
 
-/// What may stand outside comments.
-pub(crate) fn is_allowed(byte: u8) -> bool
-    ensures { result ≡ is_allowed byte }
+/// Whether a byte stands for itself wherever it stands outside comments: an allowed byte other than `#`.
+pub(crate) fn is_plain(byte: u8) -> bool
+    ensures { result ≡ is_plain byte }
 {
-    byte == b'\t' || (b' ' <= byte && byte <= b'~')
+    // Most bytes pass the first test.
+    (b'$' <= byte && byte <= b'~') || matches!(byte, b'\t' | b' '..=b'"')
 }
 
-/// What a word is made of.
+/// Whether a byte may be part of a word.
 pub(crate) fn is_word_byte(byte: u8) -> bool
     ensures { result ≡ is_word_byte byte }
 {
-    !matches!(byte, b' ' | b'\t' | b'(' | b')' | b',' | b':' | b'#')
+    // Letters pass the first test, and digits the second.
+    byte > b':' || byte.is_ascii_digit() || !matches!(byte, b' ' | b'\t' | b'(' | b')' | b',' | b':' | b'#')
 }

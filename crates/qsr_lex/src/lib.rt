@@ -1,22 +1,42 @@
 //! The lines and tokens of a text, and its numbers and names.
+//!
+//! A text is cut into lines, and what of a line stands outside its comment into tokens: brackets, commas, colons and words.
+//! `lines` gives all tokens of a text at once. A reader of files goes from line to line with `first_line`, and from token to
+//! token with a `TokenReader`, which cuts a token when it is asked for it:
+//!
+//! ```text
+//! let mut tokens = TokenReader::new(b"names ( A B )");
+//! tokens.take_word(b"names");          // true
+//! tokens.names(alloc)?;                // A and B
+//! tokens.is_empty();                   // true
+//! ```
 #![tactic(auto)]
 
 mod bytes;
+mod laws;
 mod names;
 mod numbers;
-mod printing;
 mod reading;
 mod scan;
 #[cfg(test)]
 mod tests;
 mod tokens;
 
-pub use names::{is_name, name_text, owned_names};
-pub use numbers::{number, signed};
-pub use printing::{
-    printed_name_is_read_again, printed_number_is_read_again, printed_set_is_read_again,
-    printed_text_is_read_again,
+pub use laws::{
+    limits_of_texts, printed_name_is_read, printed_number_is_read, printed_set_is_read,
+    printed_text_is_read,
 };
-pub use reading::{LineReader, NamesStop, TextLine, WordReader};
-pub use scan::{lines, readable};
-pub use tokens::{LexStop, Lines, Readable, Token, TokenKind};
+pub use names::{is_name, name_text};
+pub use numbers::{number, signed};
+pub use reading::{NamesFault, TokenReader};
+pub use scan::{FirstLine, first_line, lines};
+pub use tokens::{LexStop, LineToken, Lines, Token, TokenKind};
+
+/// The most bytes of a text that is read.
+pub const MAX_TEXT: usize = 16_777_216;
+
+/// The most bytes of a name.
+pub const LONGEST_NAME: usize = 64;
+
+/// The most digits of a number.
+pub const MOST_DIGITS: usize = 18;

@@ -1,17 +1,13 @@
-//! The words that may name something.
-ghost use Rattle.std.specs.Prelude.{◌≡◌, true, map, All, IfOk};
+//! The words that may name something: a relation, a node, a polygon or a session.
+ghost use Rattle.std.specs.Prelude.{◌≡◌, true};
 ghost use Rattle.std.specs.List.{list_all};
-ghost use Rattle.std.specs.String.{string_bytes};
-ghost use Rattle.qsr_lex.specs.Names.{is_name, is_name_byte, starts_with_digit, is_stop};
+ghost use Rattle.qsr_lex.specs.Names.{is_name, is_name_byte, starts_with_digit, is_end_mark};
 
-use crate::bytes::{is_allowed, is_word_byte};
-use std::alloc::{AllocError, Global};
+use crate::LONGEST_NAME;
+use crate::bytes::{is_plain, is_word_byte};
 
-/// The longest name, in bytes.
-const LONGEST_NAME: usize = 64;
-
-/// Whether a text is a name: a word of 1 to 64 bytes without `"` and `\`, whose first byte isn't a
-/// digit, and which isn't `.`.
+/// Whether a text is a name: a word of 1 to `LONGEST_NAME` bytes without `"` and `\`, whose first byte
+/// isn't a digit, and which isn't `.`.
 pub fn is_name(text: &[u8]) -> bool
     ensures { result ≡ is_name text.now }
 {
@@ -19,10 +15,10 @@ pub fn is_name(text: &[u8]) -> bool
         && text.len() <= LONGEST_NAME
         && are_name_bytes(text)
         && !starts_with_digit(text)
-        && !is_stop(text)
+        && !is_end_mark(text)
 }
 
-/// A name as a text.
+/// The text of a name, which is ASCII.
 pub fn name_text(name: &[u8]) -> &str
     requires { is_name name.now ≡ true }
     ensures { result.now ≡ name.now }
@@ -33,31 +29,14 @@ pub fn name_text(name: &[u8]) -> &str
     }
 }
 
-fn owned_name(alloc: Global, name: &[u8]) -> Result<String, AllocError>
-    requires { is_name name.now ≡ true }
-    ensures { IfOk result (λ text. string_bytes text ≡ name.now) }
-{
-    String::from_str(alloc, name_text(name))
-}
-
-/// Names as texts of their own.
-pub fn owned_names(alloc: Global, names: &[&[u8]]) -> Result<Vec<String>, AllocError>
-    requires { All (λ name. is_name name.now ≡ true) names.now }
-    ensures { IfOk result (λ texts. map string_bytes texts.items ≡ map (λ name. name.now) names.now) }
-{
-    let mut texts = Vec::new(alloc);
-    for name in names {
-        texts.push(owned_name(alloc, name)?)?;
-    }
-    Ok(texts)
-}
-
+/// Whether each byte may stand in a name.
 fn are_name_bytes(text: &[u8]) -> bool
     ensures { result ≡ list_all is_name_byte text.now }
 {
     text.iter().all(|byte| is_name_byte(*byte))
 }
 
+/// Whether a text begins with a digit.
 fn starts_with_digit(text: &[u8]) -> bool
     ensures { result ≡ starts_with_digit text.now }
 {
@@ -67,15 +46,16 @@ fn starts_with_digit(text: &[u8]) -> bool
     }
 }
 
+/// Whether a byte may stand in a name.
 fn is_name_byte(byte: u8) -> bool
     ensures { result ≡ is_name_byte byte }
 {
-    is_allowed(byte) && is_word_byte(byte) && byte != b'"' && byte != b'\\'
+    is_plain(byte) && is_word_byte(byte) && byte != b'"' && byte != b'\\'
 }
 
-/// Whether a word is a point alone.
-pub(crate) fn is_stop(text: &[u8]) -> bool
-    ensures { result ≡ is_stop text.now }
+/// Whether a word is a single dot.
+fn is_end_mark(text: &[u8]) -> bool
+    ensures { result ≡ is_end_mark text.now }
 {
     match text {
         [only] => *only == b'.',

@@ -1,21 +1,40 @@
-//! From bytes to tokens.
-ghost use Rattle.std.specs.Prelude.{◌≡◌, ◌≤◌, ◌<◌, ◌+◌, ◌++◌, length, IfOk, OnOk, IfErr, None, if◌then◌else◌};
+//! From bytes to lines and tokens.
+//!
+//! A line ends with an LF, and a CR in front of the LF belongs to the line's end. `#` begins a comment, which lasts to the
+//! line's end and may hold any bytes. What stands before is cut into tokens from the left: `(`, `)`, `,`, `::`, `:`, and
+//! words, the longest runs of bytes that are neither blank nor one of these marks nor `#`.
+//!
+//! `first_line` goes over a line once: up to the first byte that is `#` or not allowed outside comments. That byte is the
+//! line's end, or a comment, which is passed over, or the line can't be read. Each byte of a token is read once more where
+//! it is cut. Every loop goes forward through the text, so its end is in sight and the time is linear in its length; only
+//! `lines`, which returns all tokens at once, takes memory.
+ghost use Rattle.std.specs.Prelude.{◌≡◌, ◌≤◌, ◌<◌, ◌+◌, ◌++◌, length, IfOk, IfSome, OnOk, IfErr, MatchOption, MatchResult, Some, None, false, if◌then◌else◌};
 ghost use Rattle.qsr_lex.specs.declared.tokens.TokenKind.TheVariants.{Colon, Colons};
-ghost use Rattle.std.specs.List.{list_all, prefix_len};
-ghost use Rattle.qsr_lex.specs.Bytes.{is_allowed, is_word_byte};
-ghost use Rattle.qsr_lex.specs.TextLines.{line_count, first_line_len, starts_with_lf, starts_with_end, outside, bad_line, readable_text};
+ghost use Rattle.std.specs.List.{prefix_len};
+ghost use Rattle.qsr_lex.specs.Bytes.{is_plain, is_word_byte};
+ghost use Rattle.qsr_lex.specs.TextLines.{line_count, first_line, first_line_len, after_end, is_clean, bad_line, IsFirstLine};
 ghost use Rattle.qsr_lex.specs.Lexemes.{starts_with_colon, tail_len, kind_of};
 ghost use Rattle.qsr_lex.specs.Tokens.{token_here, tokens_after, tokens_of, token_bytes, shown_bytes, AreApart};
 ghost use Rattle.qsr_lex.specs.TokenLines.{by_line, token_lines};
 ghost use Rattle.qsr_lex.specs.Stops.{IsStopOf};
+ghost use Rattle.qsr_lex.specs.declared.TheConstants.{MAX_TEXT};
 
-use crate::bytes::{is_allowed, is_blank, is_word_byte};
-use crate::tokens::{LexStop, Lines, Readable, Token, TokenKind};
+use crate::bytes::{is_blank, is_plain, is_word_byte};
+use crate::tokens::{LexStop, Lines, Token, TokenKind};
 use std::alloc::{AllocError, Global};
 
-/// The tokens of a text of at most 16,777,216 bytes, and the number of its lines.
+/// A first line that can be read, and the text after it.
+#[derive(Clone, Copy, Debug, PartialEq, Eq)]
+pub struct FirstLine<'a> {
+    /// What of the line stands outside its comment, without its end.
+    pub part: &'a [u8],
+    /// What stands after the line.
+    pub after: &'a [u8],
+}
+
+/// The tokens of a text of at most `MAX_TEXT` bytes, and the number of its lines.
 pub fn lines(alloc: Global, bytes: &[u8]) -> Result<Lines, LexStop>
-    requires { length bytes.now ≤ 16777216 }
+    requires { length bytes.now ≤ MAX_TEXT }
     // There are tokens only where no line has a byte outside comments that isn't allowed there.
     ensures allowed { OnOk result (bad_line bytes.now ≡ None) }
     ensures tokens { IfOk result (λ lines. lines.tokens.items ≡ tokens_of bytes.now) }
@@ -25,70 +44,72 @@ pub fn lines(alloc: Global, bytes: &[u8]) -> Result<Lines, LexStop>
     ensures shown { IfOk result (λ lines.
         token_bytes bytes.now lines.tokens.items ≡ shown_bytes bytes.now) }
     // Line by line, they are the tokens of the lines.
-    ensures words { IfOk result (λ lines.
+    ensures lines { IfOk result (λ lines.
         by_line bytes.now lines.tokens.items ≡ token_lines bytes.now) }
     ensures count { IfOk result (λ lines. lines.count ≡ line_count bytes.now) }
 
     // The first line with such a byte is the one that is named.
     ensures stop { IfErr result (IsStopOf bytes.now) }
 {
-    let Readable {
-        tokens,
-        count,
-        bad_line,
-    } = readable(alloc, bytes)?;
-    match bad_line {
-        Some(line) => Err(LexStop::BadByte { line }),
-        None => Ok(Lines { tokens, count }),
-    }
-}
-
-/// The tokens of a text of at most 16,777,216 bytes up to the first line with a byte that isn't
-/// allowed, and the number of that line. The only error is want of memory.
-pub fn readable(alloc: Global, bytes: &[u8]) -> Result<Readable, LexStop>
-    requires { length bytes.now ≤ 16777216 }
-    ensures tokens { IfOk result (λ found.
-        found.tokens.items ≡ tokens_of (readable_text bytes.now)) }
-    ensures apart { IfOk result (λ found. AreApart 0 found.tokens.items (length bytes.now)) }
-    ensures shown { IfOk result (λ found.
-        token_bytes bytes.now found.tokens.items ≡ shown_bytes (readable_text bytes.now)) }
-    ensures words { IfOk result (λ found.
-        by_line bytes.now found.tokens.items ≡ token_lines (readable_text bytes.now)) }
-    ensures count { IfOk result (λ found. found.count ≡ line_count (readable_text bytes.now)) }
-    ensures bad_line { IfOk result (λ found. found.bad_line ≡ bad_line bytes.now) }
-    ensures clean { OnOk result (bad_line (readable_text bytes.now) ≡ None) }
-    ensures memory { IfErr result (λ stop. stop ≡ LexStop.Memory) }
-{
     let mut tokens = Vec::new(alloc);
     let mut count = 0;
     let mut rest = bytes;
     while !rest.is_empty() {
-        let (line, after) = rest.split_at(first_line_len(rest));
-        let part = outside(line);
-        if !are_allowed(part) {
-            return Ok(Readable {
-                tokens,
-                count,
-                bad_line: Some(count + 1),
-            });
-        }
+        let line = count + 1;
+        let Some(first) = first_line(rest) else {
+            return Err(LexStop::BadByte { line });
+        };
         let start = bytes.len() - rest.len();
-        add_tokens(&mut tokens, count + 1, start, part).map_err(|_| LexStop::Memory)?;
-        count += 1;
-        rest = after;
+        add_tokens(&mut tokens, line, start, first.part).map_err(|_| LexStop::Memory)?;
+        count = line;
+        rest = first.after;
     }
-    Ok(Readable {
-        tokens,
-        count,
-        bad_line: None,
-    })
+    Ok(Lines { tokens, count })
 }
 
-// How many bytes the first line has, with its LF.
+/// The first line of a text, unless it has a byte outside its comment that isn't allowed there.
+pub fn first_line(text: &[u8]) -> Option<FirstLine<'_>>
+    ensures cut { MatchOption result (is_clean (first_line text.now) ≡ false)
+        (λ first. IsFirstLine text.now first.part.now first.after.now) }
+    ensures lengths { IfSome result (λ first.
+        length first.part.now + length first.after.now ≤ length text.now) }
+    ensures shorter { IfSome result (λ first.
+        0 < length text.now → length first.after.now < length text.now) }
+{
+    let (part, end) = text.split_at(plain_len(text));
+    let after = after_end(end)?;
+    Some(FirstLine { part, after })
+}
+
+/// How many bytes at the front are allowed and begin no comment.
+fn plain_len(text: &[u8]) -> usize
+    ensures value { result ≡ prefix_len is_plain text.now }
+    ensures bound { result ≤ length text.now }
+{
+    text.iter().take_while(|byte| is_plain(**byte)).count()
+}
+
+/// What stands after the end of a line that begins here, with a comment before it or without.
+fn after_end(end: &[u8]) -> Option<&[u8]>
+    ensures { MatchOption result (after_end end.now ≡ None)
+        (λ after. after_end end.now ≡ Some after.now) }
+{
+    match end {
+        [] => Some(end),
+        [b'\n', after @ ..] => Some(after),
+        [b'\r', b'\n', after @ ..] => Some(after),
+        [b'#', ..] => {
+            let (_, after) = end.split_at(first_line_len(end));
+            Some(after)
+        }
+        _ => None,
+    }
+}
+
+/// How many bytes the first line has, with its LF.
 fn first_line_len(text: &[u8]) -> usize
     ensures value { result ≡ first_line_len text.now }
     ensures bound { result ≤ length text.now }
-    ensures some { 0 < length text.now → 0 < result }
 {
     for (index, byte) in text.iter().enumerate() {
         if *byte == b'\n' {
@@ -98,61 +119,14 @@ fn first_line_len(text: &[u8]) -> usize
     text.len()
 }
 
-// What of a line stands before its end and outside its comment.
-fn outside(line: &[u8]) -> &[u8]
-    ensures value { result.now ≡ outside line.now }
-    ensures bound { length result.now ≤ length line.now }
-{
-    let (part, _) = line.split_at(outside_len(line));
-    part
-}
-
-fn outside_len(line: &[u8]) -> usize
-    ensures value { result ≡ length (outside line.now) }
-    ensures bound { result ≤ length line.now }
-{
-    for index in 0..line.len() {
-        if starts_with_end(&line[index..]) {
-            return index;
-        }
-    }
-    line.len()
-}
-
-fn starts_with_end(bytes: &[u8]) -> bool
-    ensures { result ≡ starts_with_end bytes.now }
-{
-    match bytes {
-        [] => true,
-        [first, rest @ ..] => {
-            *first == b'\n' || *first == b'#' || (*first == b'\r' && starts_with_lf(rest))
-        }
-    }
-}
-
-fn starts_with_lf(bytes: &[u8]) -> bool
-    ensures { result ≡ starts_with_lf bytes.now }
-{
-    match bytes {
-        [] => false,
-        [first, ..] => *first == b'\n',
-    }
-}
-
-fn are_allowed(bytes: &[u8]) -> bool
-    ensures { result ≡ list_all is_allowed bytes.now }
-{
-    bytes.iter().all(|byte| is_allowed(*byte))
-}
-
-// Adds the tokens of a part of a line that begins at an offset.
+/// Adds the tokens of a part of a line that begins at an offset.
 fn add_tokens(
     tokens: &mut Vec<Token>,
     line: u32,
     mut start: usize,
     part: &[u8],
 ) -> Result<(), AllocError>
-    requires { start + length part.now ≤ 16777216 }
+    requires { start + length part.now ≤ MAX_TEXT }
     ensures { OnOk result
         (tokens.new.items ≡ tokens.old.items ++ tokens_after line start 0 part.now) }
 {
@@ -166,8 +140,8 @@ fn add_tokens(
     Ok(())
 }
 
-// Adds the token that begins with the first byte, if that is no blank, and says how many bytes it
-// has.
+/// Adds the token that begins with the first byte, if that is no blank, and returns how many bytes it
+/// has.
 fn add_token(
     tokens: &mut Vec<Token>,
     line: u32,
@@ -175,7 +149,7 @@ fn add_token(
     bytes: &[u8],
 ) -> Result<usize, AllocError>
     requires some { 0 < length bytes.now }
-    requires room { start + length bytes.now ≤ 16777216 }
+    requires room { start + length bytes.now ≤ MAX_TEXT }
     ensures taken { IfOk result (λ taken. taken ≡ 1 + tail_len bytes.now) }
     ensures bound { IfOk result (λ taken. taken ≤ length bytes.now) }
     ensures added { OnOk result
@@ -193,8 +167,9 @@ fn add_token(
     Ok(length)
 }
 
-// How many bytes after the first one belong to the token at the front.
-fn tail_len(bytes: &[u8]) -> usize
+/// How many bytes after the first one belong to the token at the front.
+#[inline(always)]
+pub(crate) fn tail_len(bytes: &[u8]) -> usize
     ensures value { result ≡ tail_len bytes.now }
     ensures bound { 0 < length bytes.now → result < length bytes.now }
 {
@@ -212,7 +187,9 @@ fn tail_len(bytes: &[u8]) -> usize
     }
 }
 
-fn kind_of(bytes: &[u8]) -> TokenKind
+/// What the token at the front is.
+#[inline(always)]
+pub(crate) fn kind_of(bytes: &[u8]) -> TokenKind
     ensures { result ≡ kind_of bytes.now }
 {
     match bytes {
@@ -226,6 +203,7 @@ fn kind_of(bytes: &[u8]) -> TokenKind
     }
 }
 
+/// What a token is that begins with a colon, which these bytes follow.
 fn colon_kind(rest: &[u8]) -> TokenKind
     ensures { result ≡ (if starts_with_colon rest.now then Colons else Colon) }
 {
@@ -236,6 +214,7 @@ fn colon_kind(rest: &[u8]) -> TokenKind
     }
 }
 
+/// Whether a colon is next.
 fn starts_with_colon(bytes: &[u8]) -> bool
     ensures { result ≡ starts_with_colon bytes.now }
 {
@@ -245,7 +224,7 @@ fn starts_with_colon(bytes: &[u8]) -> bool
     }
 }
 
-// How many bytes of a word a text begins with.
+/// How many bytes of a word a text begins with.
 fn word_len(bytes: &[u8]) -> usize
     ensures value { result ≡ prefix_len is_word_byte bytes.now }
     ensures bound { result ≤ length bytes.now }

@@ -1,14 +1,16 @@
 //! Rows of texts, and what is read of them.
 ghost use Rattle.std.specs.Prelude.{◌≤◌, length};
+ghost use Rattle.qsr_lex.specs.declared.TheConstants.{MAX_TEXT};
 
 use crate::{
-    LexStop, LineReader, NamesStop, Token, TokenKind, is_name, lines, name_text, number,
-    owned_names, readable, signed,
+    FirstLine, LexStop, MAX_TEXT, NamesFault, Token, TokenKind, TokenReader, first_line, is_name,
+    lines, name_text, number, signed,
 };
 use std::alloc::Global;
 use std::process::Abort;
 use std::test::Fail;
 
+/// A token at a place.
 fn token(line: u32, start: usize, end: usize, kind: TokenKind) -> Token {
     Token {
         line,
@@ -18,7 +20,7 @@ fn token(line: u32, start: usize, end: usize, kind: TokenKind) -> Token {
     }
 }
 
-// The text has these tokens, and so many lines.
+/// Asserts that the text has these tokens, and `count` lines.
 fn has(
     rt: &impl Abort,
     alloc: Global,
@@ -26,7 +28,7 @@ fn has(
     tokens: &[Token],
     count: u32,
 ) -> Result<(), LexStop>
-    requires { length text.now ≤ 16777216 }
+    requires { length text.now ≤ MAX_TEXT }
 {
     let found = lines(alloc, text)?;
     assert_eq!(rt; found.tokens.as_slice(), tokens);
@@ -34,9 +36,9 @@ fn has(
     Ok(())
 }
 
-// The first line of the text with a byte that isn't allowed.
+/// The first line of the text with a byte that isn't allowed.
 fn bad_line(alloc: Global, text: &[u8]) -> Option<u32>
-    requires { length text.now ≤ 16777216 }
+    requires { length text.now ≤ MAX_TEXT }
 {
     match lines(alloc, text) {
         Err(LexStop::BadByte { line }) => Some(line),
@@ -80,50 +82,72 @@ fn the_first_bad_line_is_named(rt: HostRuntime) {
 }
 
 #[test]
-fn lines_before_a_bad_byte_are_read(rt: HostRuntime) -> Result<(), Fail> {
-    let text = b"a (\nb\x01\nc";
-    let found = readable(rt.alloc(), text)?;
-    assert_eq!(rt; found.bad_line, Some(2));
-    assert_eq!(rt; found.count, 1);
-    assert_eq!(rt; found.tokens.len(), 2);
-    Ok(())
+fn the_first_line_of_a_text_is_cut(rt: HostRuntime) {
+    // text, what of the first line stands outside its comment, what stands after the line
+    let rows: [(&[u8], &[u8], &[u8]); 6] = [
+        (b"", b"", b""),
+        (b"a (", b"a (", b""),
+        (b"a (\n b\x01", b"a (", b" b\x01"),
+        (b"a\r\n\n", b"a", b"\n"),
+        (b" # \x80\r\nb", b" ", b"b"),
+        (b"#", b"", b""),
+    ];
+    for (text, part, after) in rows {
+        assert_eq!(rt;
+            first_line(text),
+            Some(FirstLine { part, after }),
+            "{text:?}"
+        );
+    }
+    assert_eq!(rt; first_line(b"a\x01#\nb"), None);
+    assert_eq!(rt; first_line(b"a\rb\n"), None);
 }
 
 #[test]
-fn a_line_is_read_word_by_word(rt: HostRuntime) -> Result<(), Fail> {
-    let text = b"names ( A \"b )\n\n x\n";
-    let found = readable(rt.alloc(), text)?;
-    let mut rest = LineReader::new(text, found.tokens.as_slice());
-    let mut line = rest.next_line().ok_or("a line")?;
-    assert_eq!(rt; line.number, 1);
-    assert!(rt; !line.words.take_word(b"name"));
-    assert!(rt; line.words.take_word(b"names"));
-    assert!(rt; line.words.take_kind(TokenKind::Open));
-    assert_eq!(rt; name_text(line.words.name().ok_or("a name")?), "A");
-    assert!(rt; line.words.name().is_none());
-    assert_eq!(rt; line.words.word().ok_or("a word")?, b"\"b".as_slice());
-    assert!(rt; line.words.take_kind(TokenKind::Close));
-    assert!(rt; line.words.is_empty());
-    assert_eq!(rt; rest.next_line().ok_or("a line")?.number, 3);
-    assert!(rt; rest.next_line().is_none());
+fn a_line_is_read_token_by_token(rt: HostRuntime) -> Result<(), Fail> {
+    let mut tokens = TokenReader::new(b" names(A \"b ) :: .");
+    assert!(rt; !tokens.take_word(b"name"));
+    assert!(rt; tokens.take_word(b"names"));
+    assert!(rt; tokens.take_kind(TokenKind::Open));
+    assert_eq!(rt; name_text(tokens.name().ok_or("a name")?), "A");
+    assert!(rt; tokens.name().is_none());
+    assert_eq!(rt; tokens.word().ok_or("a word")?, b"\"b".as_slice());
+    assert!(rt; tokens.take_kind(TokenKind::Close));
+    assert!(rt; !tokens.is_empty());
+    let colons = tokens.next().ok_or("colons")?;
+    assert_eq!(rt; colons.kind, TokenKind::Colons);
+    assert_eq!(rt; colons.text, b"::".as_slice());
+    assert!(rt; tokens.take_kind(TokenKind::Stop));
+    assert!(rt; tokens.is_empty());
+    assert_eq!(rt; tokens.next(), None);
     Ok(())
 }
 
 #[test]
 fn names_in_brackets_are_read(rt: HostRuntime) -> Result<(), Fail> {
     let alloc = rt.alloc();
-    let text = b"( A A b ) ( ) ( 0 )";
-    let found = readable(alloc, text)?;
-    let mut rest = LineReader::new(text, found.tokens.as_slice());
-    let mut words = rest.next_line().ok_or("a line")?.words;
-    let names = owned_names(alloc, &words.names(alloc)?)?;
+    let mut tokens = TokenReader::new(b"( A A b ) ( ) ( 0 )");
+    let names = tokens.names(alloc)?;
     assert_eq!(rt; names.len(), 3);
-    assert_eq!(rt; names.last().ok_or("a name")?.as_str(), "b");
-    assert!(rt; words.names(alloc)?.is_empty());
-    match words.names(alloc) {
-        Err(NamesStop::Form) => Ok(()),
+    assert_eq!(rt; *names.last().ok_or("a name")?, b"b".as_slice());
+    assert!(rt; tokens.names(alloc)?.is_empty());
+    match tokens.names(alloc) {
+        Err(NamesFault::Form) => Ok(()),
         _ => Err("0 is no name".into()),
     }
+}
+
+#[test]
+fn a_text_has_at_most_16777216_bytes(rt: HostRuntime) -> Result<(), Fail> {
+    let most = vec![in rt.alloc(); b'\n'; 16_777_216]?;
+    let found = if most.len() <= MAX_TEXT {
+        lines(rt.alloc(), &most)?
+    } else {
+        return Err("a text of 16,777,216 bytes is within the limit".into());
+    };
+    assert_eq!(rt; found.count, 16_777_216);
+    assert_eq!(rt; MAX_TEXT, 16_777_216);
+    Ok(())
 }
 
 #[test]

@@ -3,7 +3,7 @@
 /// What a token is.
 #[derive(Clone, Copy, Debug, PartialEq, Eq)]
 pub enum TokenKind {
-    /// Any word but a point alone.
+    /// Any word but a single dot.
     Word,
     /// `(`.
     Open,
@@ -32,6 +32,15 @@ pub struct Token {
     pub kind: TokenKind,
 }
 
+/// A token without its place.
+#[derive(Clone, Copy, Debug, PartialEq, Eq)]
+pub struct LineToken<'a> {
+    /// What it is.
+    pub kind: TokenKind,
+    /// Its bytes.
+    pub text: &'a [u8],
+}
+
 /// The tokens of a text, in order, and the number of its lines.
 #[derive(Debug, Drop)]
 pub struct Lines {
@@ -49,17 +58,6 @@ pub enum LexStop {
         /// The first line with such a byte, from 1.
         line: u32,
     },
-    /// Memory ran out.
+    /// Out of memory.
     Memory,
-}
-
-/// What of a text can be read: its lines before the first one with a byte that isn't allowed.
-#[derive(Debug, Drop)]
-pub struct Readable {
-    /// The tokens of those lines, in the order in which they stand.
-    pub tokens: Vec<Token>,
-    /// How many lines those are, those without tokens too.
-    pub count: u32,
-    /// The number of the first line with a byte outside comments that isn't allowed there, from 1.
-    pub bad_line: Option<u32>,
 }

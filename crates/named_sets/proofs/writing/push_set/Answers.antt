@@ -1,4 +1,4 @@
-use Rattle.std.proofs.Common.{◌≡◌, ◌++◌, ◌∙◌, ap, append_assoc, codes, arith}
+use Rattle.std.proofs.Common.{◌≡◌, ℕ, List, ◌++◌, ◌∙◌, ap, append_assoc, codes, arith}
 use Rattle.std.specs.String.{string_bytes}
 use Rattle.qsr_lex.specs.Printed.{text_below}
 use Rattle.named_sets.specs.Written.{member_text}
@@ -15,9 +15,10 @@ pub returns : goal.returns
 returns c =
     let old = string_bytes c.args.text.now in
     let members = member_text c.args.c.now.names c.args.set in
-    let all = text_below c.args.c.now.algebra.size members in
     let end : c.loop-r.r ≡ c.args.c.now.algebra.size = omega arith in
     c.in_ok-push_str-2.ensures.bytes
-    ∙ ap (λ x. x ++ codes ")") (c.loop-r.invariant ∙ ap (λ k. (old ++ codes "( ") ++ text_below k members) end)
-    ∙ append_assoc (old ++ codes "( ") all (codes ")")
-    ∙ append_assoc old (codes "( ") (all ++ codes ")")
+    ∙ ap (λ x. x ++ codes ")\n") (c.loop-r.invariant ∙ ap (λ k. (old ++ codes "( ") ++ text_below k members) end)
+    ∙ shape old (text_below c.args.c.now.algebra.size members)
+  where
+    shape : (old all : List ℕ) → ((old ++ codes "( ") ++ all) ++ codes ")\n" ≡ old ++ ((codes "( " ++ all ++ codes ")") ++ codes "\n")
+    shape old all = simp append_assoc

@@ -4,7 +4,7 @@ use Rattle.network_file.proofs.FactLines.{FactsSoFar}
 use Rattle.network_file.proofs.facts.read_facts.Given as goal
 
 abbrev pub invariant-loop-line : goal.invariant-loop-line
-invariant-loop-line l = (facts : List Fact) × FactsSoFar l.c l.end l.fn.net l.net facts l.fn.lines l.lines
+invariant-loop-line l = (facts : List Fact) × FactsSoFar l.c l.fn.net l.net facts l.fn.lines l.lines
 
 abbrev pub decreases-loop-line : goal.decreases-loop-line
-decreases-loop-line l = length l.lines
+decreases-loop-line l = length l.lines.lines

@@ -1,17 +1,10 @@
-use Rattle.std.proofs.Common.{IfOk, IfErr, ap, ◌∙◌, subst}
-use Rattle.qsr_lex.specs.TokenLines.{by_line}
-use Rattle.network_file.specs.NetworkFile.{FailsWith, Says}
-use Rattle.network_file.proofs.NamesLine.{reads_text}
+use Rattle.network_file.proofs.WholeFiles.{file-read, IsNetwork-from_file}
 use Rattle.network_file.proofs.reading.read.Goals as goal
 
 pub returns-clause-ok : goal.returns-clause-ok
 returns-clause-ok c =
-    let lines = c.new-lines.ensures ∙ ap (by_line c.args.bytes.now) c.deref.ensures.value ∙ c.in-Ok.ensures.words in
-    let reads = reads_text c.args.c.now c.args.bytes.now c.in-Ok.found.bad_line c.in-Ok.found.count c.end_at.result c.new-lines.result c.end_at.ensures c.in-Ok.ensures.bad_line c.in-Ok.ensures.count lines in
-    subst (λ r. IfOk c.read_lines.result (Says c.args.c.now r)) reads c.read_lines.ensures.ok
+    file-read c.args.c.now c.args.bytes.now c.in_ok-net.net c.read_names.new.net c.read_facts.new.net c.new-lines.result c.read_nodes.new.lines c.read_names.new.lines
+    c.new-lines.ensures c.in_ok-net.ensures.ok c.in_ok-net.ensures.end c.in_ok-net.ensures.fresh c.in_ok-read_names.ensures.ok c.in_ok-read_names.ensures.end c.in_ok-read_names.ensures.kept c.in_ok-read_facts.ensures.ok
 
-pub returns-clause-fault : goal.returns-clause-fault
-returns-clause-fault c =
-    let lines = c.new-lines.ensures ∙ ap (by_line c.args.bytes.now) c.deref.ensures.value ∙ c.in-Ok.ensures.words in
-    let reads = reads_text c.args.c.now c.args.bytes.now c.in-Ok.found.bad_line c.in-Ok.found.count c.end_at.result c.new-lines.result c.end_at.ensures c.in-Ok.ensures.bad_line c.in-Ok.ensures.count lines in
-    subst (λ r. IfErr c.read_lines.result (FailsWith r)) reads c.read_lines.ensures.fault
+pub returns-clause-network : goal.returns-clause-network
+returns-clause-network c = IsNetwork-from_file c.args.c.now c.args.bytes.now c.read_facts.new.net (returns-clause-ok c)

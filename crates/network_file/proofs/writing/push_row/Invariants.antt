@@ -5,4 +5,7 @@ use Rattle.network_file.specs.NetworkText.{later_line}
 use Rattle.network_file.proofs.writing.push_row.Given as goal
 
 abbrev pub invariant-loop-j : goal.invariant-loop-j
-invariant-loop-j l = string_bytes l.text ≡ string_bytes l.fn.text ++ text_below l.j (later_line l.c l.net l.i)
+invariant-loop-j l = record {
+  text : string_bytes l.text ≡ string_bytes l.fn.text ++ text_below l.j (later_line l.fn.sets l.net l.i);
+  sets : l.sets ≡ l.fn.sets;
+}
