@@ -1,4 +1,4 @@
-pub mod Narrowings
-pub mod Worklists
-pub mod Turns
+pub mod Places
+pub mod Triples
+pub mod Planes
 pub mod Starts
