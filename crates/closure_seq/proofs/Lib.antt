@@ -1,4 +1,8 @@
 pub mod Places
-pub mod Triples
 pub mod Planes
 pub mod Starts
+pub mod Steps
+pub mod Settled
+pub mod Blocks
+pub mod Loads
+pub mod Closures

@@ -3,8 +3,8 @@ use Rattle.std.proofs.Common.{◌≡◌, ◌≢◌, ℕ, ◌+◌, ◌*◌, ◌<�
 use Rattle.std.specs.Prelude.{slice_index, slice_set}
 use Rattle.std.proofs.lemmas.Bool.{cases_lt, cases_eq, lt-ltb, le-ltb, false≢true}
 use Rattle.std.proofs.lemmas.List.{get_or-set_same, get_or-set_other, get_or-replicate, length-replicate, get_or_past}
-use Rattle.network_words.specs.Edge.{IsProperPair}
-use Rattle.closure_seq.specs.Worklist.{Worklist, IsSized, IsQueued, IsWaiting, edge_place, IsSamePair}
+use Rattle.network_words.specs.Edge.{IsProperPair, IsSamePair}
+use Rattle.closure_seq.specs.Worklist.{Worklist, IsSized, IsQueued, IsWaiting, edge_place}
 
 -- ---- places of edges
 
@@ -25,9 +25,6 @@ edge_place-inside n i j b p = elim (cases_lt i j) [
   | inl h ↦ rw (edge_place-forward i j h) (omega (arith, p.first_below, p.second_below))
   | inr h ↦ rw (edge_place-backward i j h) (omega (arith, p.first_below, p.second_below))
 ]
-
-pub pair-swap : (n i j : ℕ) → IsProperPair n i j → IsProperPair n j i
-pair-swap n i j p = record { first_below = p.second_below; second_below = p.first_below; differ = λ e. p.differ (sym e) }
 
 -- pairs with the same edge are the same
 pub pair-from_place : (n a b i j : ℕ) → n ≤ 256 → IsProperPair n a b → IsProperPair n i j → edge_place a b ≡ edge_place i j → IsSamePair a b i j

@@ -58,6 +58,6 @@ with_pair sets i k x y = slice_set (slice_set sets (256 * i + k) x) (256 * k + i
 abbrev pub IsBegun : Worklist → ℕ → ℕ → Type 0
 IsBegun work full k = (i j : ℕ) → i < k → i < j → j < work.nodes → (set_of work i j ≡ full) ⊎ IsQueued work i j
 
--- the pair (a, b) is the pair (i, j), either way round
-abbrev pub IsSamePair : ℕ → ℕ → ℕ → ℕ → Type 0
-IsSamePair a b i j = ((a ≡ i) × (b ≡ j)) ⊎ ((a ≡ j) × (b ≡ i))
+-- what contracts see of room for closing: the nodes of the networks that it is for
+pub record Room : Type 0 where
+  pub nodes : ℕ

@@ -9,9 +9,8 @@
 ghost use Rattle.std.specs.Prelude.{◌≡◌, IfOk, replicate, false};
 
 use crate::order::Order;
-use calculus_table::{Compose, Memory, Rel, lawful};
+use calculus_table::{Memory, Rel};
 use compose_fast::put_set;
-use network_words::Net;
 use std::alloc::Global;
 use std::marker::Model;
 
@@ -34,12 +33,6 @@ fn unset_marks(alloc: Global, count: usize) -> Result<Vec<bool>, Memory>
     ensures { IfOk result (λ marks. marks.items ≡ replicate count false) }
 {
     vec![in alloc; false; count].map_err(|_| Memory)
-}
-
-/// The set of the identity.
-fn identity_of<C: Compose>(c: &C) -> Rel {
-    lawful(c);
-    Rel::single(c.identity())
 }
 
 /// The sets of the ordered pairs of so many nodes, and the edges that are queued.
@@ -140,6 +133,7 @@ impl PairSets {
         ensures value { self.new ≡ record self.old { sets = slice_set self.old.sets (256 * i + j) rel } }
         ensures sized { IsSized self.old }
     {
+        let _ = &self.nodes;
         let place = (256 * i + j) as usize;
         self.sets[place] = rel;
         put_set::<P>(&mut self.bytes, place, rel);
@@ -152,6 +146,7 @@ impl PairSets {
         ensures value { self.new ≡ record self.old { queued = slice_set self.old.queued (edge_place i j) true } }
         ensures sized { IsSized self.old }
     {
+        let _ = &self.nodes;
         let place = if i < j { 256 * i + j } else { 256 * j + i };
         self.queued[place as usize] = true;
         self.order.put(place as u16, members);
