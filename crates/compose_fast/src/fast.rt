@@ -44,9 +44,9 @@ impl Model for Fast {
 }
 
 /// The converse of a base relation.
-fn converse_at(c: &Calculus, r: u32) -> u32
-    requires { r < c.now.algebra.size }
-    ensures { result ≡ converse_at c.now.algebra r }
+fn converse_at<C: Compose>(c: &C, r: u32) -> u32
+    requires { r < (C.algebra c.now).size }
+    ensures { result ≡ converse_at (C.algebra c.now) r }
 {
     lawful(c);
     let converse = c.converse(Rel::single(r));
@@ -54,8 +54,8 @@ fn converse_at(c: &Calculus, r: u32) -> u32
 }
 
 /// The converses of the base relations.
-fn converses_of(alloc: Global, c: &Calculus) -> Result<Vec<u32>, Memory>
-    ensures { IfOk result (λ converses. converses.items ≡ c.now.algebra.converses) }
+fn converses_of<C: Compose>(alloc: Global, c: &C) -> Result<Vec<u32>, Memory>
+    ensures { IfOk result (λ converses. converses.items ≡ (C.algebra c.now).converses) }
 {
     lawful(c);
     let size = c.size();
@@ -67,9 +67,9 @@ fn converses_of(alloc: Global, c: &Calculus) -> Result<Vec<u32>, Memory>
 }
 
 /// The composition of two base relations, at its place in the table.
-fn entry_at(c: &Calculus, e: u32) -> Rel
-    requires { e < c.now.algebra.size * c.now.algebra.size }
-    ensures { result ≡ slice_index c.now.algebra.table e }
+fn entry_at<C: Compose>(c: &C, e: u32) -> Rel
+    requires { e < (C.algebra c.now).size * (C.algebra c.now).size }
+    ensures { result ≡ slice_index (C.algebra c.now).table e }
 {
     lawful(c);
     let size = c.size();
@@ -77,8 +77,8 @@ fn entry_at(c: &Calculus, e: u32) -> Rel
 }
 
 /// The compositions of the base relations.
-fn entries_of(alloc: Global, c: &Calculus) -> Result<Vec<Rel>, Memory>
-    ensures { IfOk result (λ entries. entries.items ≡ c.now.algebra.table) }
+fn entries_of<C: Compose>(alloc: Global, c: &C) -> Result<Vec<Rel>, Memory>
+    ensures { IfOk result (λ entries. entries.items ≡ (C.algebra c.now).table) }
 {
     lawful(c);
     let size = c.size();
@@ -90,19 +90,19 @@ fn entries_of(alloc: Global, c: &Calculus) -> Result<Vec<Rel>, Memory>
 }
 
 /// The composition of a base relation with the set of a place, at its place among the rows.
-fn row_entry(c: &Calculus, e: u32) -> Rel
-    requires { e < 256 * c.now.algebra.size }
-    ensures { result ≡ row_entry c.now.algebra e }
+fn row_entry<C: Compose>(c: &C, e: u32) -> Rel
+    requires { e < 256 * (C.algebra c.now).size }
+    ensures { result ≡ row_entry (C.algebra c.now) e }
 {
     lawful(c);
     composition_at(c, e / 256, e % 256)
 }
 
 /// The compositions of each base relation with the sets of the places.
-fn rows_of(alloc: Global, c: &Calculus) -> Result<Vec<Rel>, Memory>
-    ensures length_is { IfOk result (λ rows. length rows.items ≡ 256 * c.now.algebra.size) }
-    ensures each { IfOk result (λ rows. (e : ℕ) → e < 256 * c.now.algebra.size →
-        slice_index rows.items e ≡ row_entry c.now.algebra e) }
+fn rows_of<C: Compose>(alloc: Global, c: &C) -> Result<Vec<Rel>, Memory>
+    ensures length_is { IfOk result (λ rows. length rows.items ≡ 256 * (C.algebra c.now).size) }
+    ensures each { IfOk result (λ rows. (e : ℕ) → e < 256 * (C.algebra c.now).size →
+        slice_index rows.items e ≡ row_entry (C.algebra c.now) e) }
 {
     lawful(c);
     let size = c.size();
@@ -114,9 +114,9 @@ fn rows_of(alloc: Global, c: &Calculus) -> Result<Vec<Rel>, Memory>
 }
 
 /// The converses of the sets of the places.
-fn converses_of_places(alloc: Global, c: &Calculus) -> Result<Vec<Rel>, Memory>
+fn converses_of_places<C: Compose>(alloc: Global, c: &C) -> Result<Vec<Rel>, Memory>
     ensures length_is { IfOk result (λ places. length places.items ≡ 256) }
-    ensures each { IfOk result (λ places. (d : ℕ) → d < 256 → slice_index places.items d ≡ converse_of_place c.now.algebra d) }
+    ensures each { IfOk result (λ places. (d : ℕ) → d < 256 → slice_index places.items d ≡ converse_of_place (C.algebra c.now) d) }
 {
     let mut places = Vec::new(alloc);
     for d in 0..256 {
@@ -134,6 +134,13 @@ impl Fast {
     /// The tables of a calculus. What they mean is what the calculus means, without its names.
     pub fn new(alloc: Global, c: &Calculus) -> Result<Fast, Memory>
         ensures { IfOk result (λ fast. fast ≡ c.now.algebra) }
+    {
+        Fast::of(alloc, c)
+    }
+
+    /// The tables of what any value that composes means.
+    pub fn of<C: Compose>(alloc: Global, c: &C) -> Result<Fast, Memory>
+        ensures { IfOk result (λ fast. fast ≡ C.algebra c.now) }
     {
         lawful(c);
         let converses = converses_of(alloc, c)?;

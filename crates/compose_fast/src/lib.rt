@@ -21,3 +21,6 @@ pub use fast::Fast;
 pub use kernels::{first_difference, first_zero, or_rows};
 pub use members::without;
 pub use tables::{PLANE, Tables, put_set};
+
+#[cfg(test)]
+mod tests;

@@ -3,8 +3,8 @@ use Rattle.std.proofs.lemmas.Grind.{same_number_lists}
 use Rattle.compose_fast.proofs.fast.entries_of.Goals as goal
 
 pub returns : goal.returns
-returns c =
-    let m = c.args.c.now.algebra in
+returns g c =
+    let m = (g.C.Compose.algebra c.args.c.now) in
     let size = c.size-size.ensures.value in
     let square : c.size-size.result * c.size-size.result ≡ m.size * m.size = ap (λ n. n * n) size in
     let low : m.size * m.size ≤ c.loop-e.e = rw square at c.loop-e-test.false in

@@ -3,4 +3,4 @@ use Rattle.compose_fast.proofs.fast.row_entry.Goals as goal
 
 pub returns : goal.returns
 unfolding row_entry
-returns c = c.composition_at.ensures
+returns g c = c.composition_at.ensures

@@ -4,7 +4,7 @@ use Rattle.compose_fast.specs.Nibbles.{row_entry}
 use Rattle.compose_fast.proofs.fast.rows_of.Given as goal
 
 abbrev pub invariant-loop-e : goal.invariant-loop-e
-invariant-loop-e l = record {
+invariant-loop-e g l = record {
   length_is : length l.rows.items ≡ l.e;
-  each : (d : ℕ) → d < l.e → slice_index l.rows.items d ≡ row_entry l.c.algebra d;
+  each : (d : ℕ) → d < l.e → slice_index l.rows.items d ≡ row_entry (g.C.Compose.algebra l.c) d;
 }

@@ -1,7 +1,7 @@
 use Rattle.std.proofs.Common.{◌≡◌, ℕ, ◌+◌, ◌*◌, ◌/◌, ◌%◌, ◌<◌, ap, ◌∙◌, arith}
 use Rattle.calculus_table.specs.Algebra.{Algebra}
 use Rattle.compose_fast.specs.Nibbles.{row_entry, composition_at}
-use Rattle.compose_fast.proofs.fast.Fast.new.Goals as goal
+use Rattle.compose_fast.proofs.fast.Fast.of.Goals as goal
 
 row_entry-at : (m : Algebra) (r d : ℕ) → d < 256 → row_entry m (256 * r + d) ≡ composition_at m r d
 unfolding row_entry
@@ -11,8 +11,8 @@ row_entry-at m r d l =
     ap (λ x. composition_at m x ((256 * r + d) % 256)) q ∙ ap (composition_at m r) s
 
 pub invariant_of-result : goal.invariant_of-result
-invariant_of-result c =
-    let m = c.args.c.now.algebra in
+invariant_of-result g c =
+    let m = g.C.Compose.algebra c.args.c.now in
     let size = c.size-size.ensures.value in
     rw (size, c.identity.ensures, c.in_ok-converses.ensures, c.in_ok-entries.ensures)
     (record {
