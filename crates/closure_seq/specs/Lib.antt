@@ -1,3 +1,2 @@
-pub mod Narrowing
 pub mod Worklist
-pub mod ClosedBut
+pub mod Propagation

@@ -2,13 +2,11 @@
 #![tactic(auto)]
 
 mod closing;
-mod laws;
-pub mod plain;
+mod loading;
+mod order;
+mod pairs;
+mod propagation;
 mod work;
 
-pub use closing::{close, close_from, close_with};
-pub use laws::laws_of_closing;
+pub use closing::{close, close_with};
 pub use work::Work;
-
-#[cfg(test)]
-mod tests;

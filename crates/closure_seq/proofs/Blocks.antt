@@ -1,0 +1,72 @@
+-- Lanes and blocks of nodes, one after another.
+use Rattle.std.proofs.Common.{◌≡◌, ◌≢◌, ℕ, ◌+◌, ◌*◌, ◌-◌, ◌<◌, ◌≤◌, List, refl, sym, ◌∙◌, ap, subst, arith, ◌⊎◌, inl, inr}
+use Rattle.std.specs.Prelude.{slice_index}
+use Rattle.std.proofs.lemmas.Bool.{cases_lt, cases_eq}
+use Rattle.calculus_table.specs.Rel.{Has, IsWithin, IsWithout}
+use Rattle.calculus_table.specs.Algebra.{Algebra}
+use Rattle.calculus_table.specs.Composition.{full_of, composition}
+use Rattle.network_words.specs.Edge.{IsProperPair, IsProperTriple}
+use Rattle.network_words.proofs.Pairs.{pair-first, pair-second, pair-outer}
+use Rattle.compose_fast.specs.Nibbles.{byte}
+use Rattle.compose_fast.specs.Planes.{AreTablesOf, IsWithinAlong}
+use Rattle.compose_fast.proofs.Clear.{within_along}
+use Rattle.closure_seq.specs.Worklist.{Worklist, IsQueued, AreBytesOf, set_of}
+use Rattle.closure_seq.specs.Propagation.{IsReady, IsStep, IsClosedAlong, IsSettledAt}
+use Rattle.closure_seq.proofs.Steps.{IsStep-refl, IsStep-trans}
+use Rattle.closure_seq.proofs.Settled.{IsSettledAt-step}
+
+-- a lane that is clear tells that its triple is closed, unless the set of (i, j) changed meanwhile
+pub settled-clear : (m : Algebra) (planes : ℕ) (work : Worklist) (set bytes : List ℕ) (i j from l a : ℕ) → IsReady m planes work → AreBytesOf work bytes → AreTablesOf m planes a set →
+    IsProperTriple work.nodes i j (from + l) → (¬ IsQueued work i j → a ≡ set_of work i j) →
+    IsWithinAlong set bytes planes (256 * i + from + l) (256 * j + from + l) → IsSettledAt m work i j (from + l)
+settled-clear m planes work set bytes i j from l a r b tables t set-is clear = λ quiet _.
+    let n = work.nodes in
+    let k = from + l in
+    let x = set_of work i k in
+    let y = set_of work j k in
+    let at = λ (h p : ℕ) (hb : h < n) (pb : p < planes).
+    let e : 65536 * p + (256 * h + from + l) ≡ 65536 * p + (256 * h + k) = omega arith in
+    let few : p < work.planes = omega (arith, r.planes_are) in
+    ap (slice_index bytes) e ∙ b.each p h k few hb t.third_below in
+    subst (λ z. IsWithin x (composition m z y)) (set-is quiet)
+    (within_along m planes a x y (256 * i + from + l) (256 * j + from + l) set bytes r.calculus.table tables (λ q qb. at j q t.second_below qb)
+    r.enough (r.sets.within i k (pair-outer n i j k t)) (λ p pb. at i p t.first_below pb) clear)
+
+-- ---- lanes one after another
+
+pub record AreLanesDone (m : Algebra) (old new : Worklist) (i j from left : ℕ) : Type 0 where
+  pub step : IsStep m old new
+  pub settled : (l : ℕ) → l < 16 → ¬ Has left l → IsProperTriple old.nodes i j (from + l) → IsSettledAt m new i j (from + l)
+
+pub AreLanesDone-step : (m : Algebra) (a b c : Worklist) (i j from left lane rest : ℕ) → AreLanesDone m a b i j from left → IsWithout left lane rest → IsStep m b c →
+    (IsProperTriple b.nodes i j (from + lane) → IsClosedAlong m c i j (from + lane)) → AreLanesDone m a c i j from rest
+AreLanesDone-step m a b c i j from left lane rest p out q h = record {
+  step = IsStep-trans m a b c p.step q;
+  settled = λ l small none t.
+      let t' : IsProperTriple b.nodes i j (from + l) = subst (λ n. IsProperTriple n i j (from + l)) (sym p.step.nodes) t in
+      elim (cases_eq l lane) [
+        | inl same ↦ λ _ _. rw (sym same) at (h (rw same at t'))
+        | inr ne ↦ IsSettledAt-step m b c i j (from + l) q t' (p.settled l small (λ has. none (out.others l has ne)) t)
+      ];
+}
+
+-- ---- blocks one after another
+
+-- the pairs (i, q) with q below k were narrowed along j
+pub record IsPropagated (m : Algebra) (old new : Worklist) (i j k : ℕ) : Type 0 where
+  pub step : IsStep m old new
+  pub settled : (q : ℕ) → q < k → IsProperTriple old.nodes i j q → IsSettledAt m new i j q
+
+pub IsPropagated-block : (m : Algebra) (a b c : Worklist) (i j block : ℕ) → IsPropagated m a b i j (16 * block) → IsStep m b c →
+    ((l : ℕ) → l < 16 → IsProperTriple b.nodes i j (16 * block + l) → IsSettledAt m c i j (16 * block + l)) → IsPropagated m a c i j (16 * (block + 1))
+IsPropagated-block m a b c i j block p q h = record {
+  step = IsStep-trans m a b c p.step q;
+  settled = λ d l t.
+      let t' : IsProperTriple b.nodes i j d = subst (λ n. IsProperTriple n i j d) (sym p.step.nodes) t in
+      elim (cases_lt d (16 * block)) [
+        | inl below ↦ IsSettledAt-step m b c i j d q t' (p.settled d below t)
+        | inr above ↦
+            (let at : 16 * block + (d - 16 * block) ≡ d = omega arith in
+            subst (IsSettledAt m c i j) at (h (d - 16 * block) (omega arith) (subst (IsProperTriple b.nodes i j) (sym at) t')))
+      ];
+}

@@ -1,0 +1,97 @@
+-- The closure of a network by what propagation leaves.
+use Rattle.std.proofs.Common.{◌≡◌, ◌≢◌, ℕ, ◌+◌, ◌*◌, ◌<◌, ◌≤◌, List, length, get_or, refl, sym, ◌∙◌, ap, subst, arith, ◌⊎◌, inl, inr}
+use Rattle.std.specs.Prelude.{slice_index}
+use Rattle.std.proofs.lemmas.Bool.{cases_lt, cases_eq}
+use Rattle.std.proofs.lemmas.List.{get_or_past}
+use Rattle.calculus_table.specs.Rel.{IsWithin}
+use Rattle.calculus_table.specs.Algebra.{Algebra}
+use Rattle.calculus_table.specs.Composition.{composition, converse}
+use Rattle.calculus_table.specs.Calculus.{IsCalculus}
+use Rattle.calculus_table.proofs.Sets.{IsWithin-empty, empty-within}
+use Rattle.network_words.specs.Edge.{edge_count, edge_at, IsProperPair, IsProperTriple, EdgeOf}
+use Rattle.network_words.specs.Network.{IsNetwork, Refines, relation_between}
+use Rattle.network_words.specs.Closure.{IsClosed, IsClosure}
+use Rattle.network_words.proofs.Edges.{edge_at-lt, edge_of}
+use Rattle.network_words.proofs.Networks.{relation_between-straight, relation_between-turned, relation_between-mono}
+use Rattle.network_words.proofs.Pairs.{pair-ordered, pair-first, pair-second, pair-outer}
+use Rattle.network_words.proofs.Refinements.{IsNetwork-refines}
+use Rattle.network_words.proofs.Scenarios.{converse-empty, turned-empty, closed-empty}
+use Rattle.closure_seq.specs.Worklist.{Worklist, set_of}
+use Rattle.closure_seq.specs.Propagation.{IsInStep, IsInside, IsRefinement, HasEmpty, AreClosed}
+
+-- a fact of each word from one of each pair
+by_edge : (P : ℕ → ℕ → Type 0) (n : ℕ) (xs ys : List ℕ) → length xs ≡ edge_count n → ((y : ℕ) → P 0 y) →
+    ((i j : ℕ) → i < j → j < n → P (slice_index xs (edge_at n i j)) (slice_index ys (edge_at n i j))) → (e : ℕ) → P (slice_index xs e) (slice_index ys e)
+by_edge P n xs ys l none each e = elim (cases_lt e (edge_count n)) [
+  | inl b ↦ (let f : EdgeOf n e = edge_of n e b in subst (λ d. P (slice_index xs d) (slice_index ys d)) f.number (each f.first f.second f.order f.below))
+  | inr g ↦ subst (λ x. P x (slice_index ys e)) (sym (get_or_past xs e 0 (omega arith))) (none (slice_index ys e))
+]
+
+-- a network within another is inside the sets of its pairs
+pub IsInside-refines : (m : Algebra) (n : ℕ) (words other : List ℕ) (work : Worklist) → IsInStep m n words work → Refines other words → IsInside m other work
+IsInside-refines m n words other work s w = λ i j p'.
+    let p : IsProperPair n i j = subst (λ k. IsProperPair k i j) s.nodes p' in
+    rw (s.nodes, s.sets i j p) (relation_between-mono m n other words i j w)
+
+-- and the other way round
+pub Refines-inside : (m : Algebra) (n : ℕ) (words other : List ℕ) (work : Worklist) → IsInStep m n words work → length other ≡ edge_count n → IsInside m other work → Refines other words
+Refines-inside m n words other work s l inside = record {
+  each = by_edge IsWithin n other words l IsWithin-empty (λ i j o b.
+      let p = pair-ordered n i j o b in
+      let w : IsWithin (relation_between m n other i j) (relation_between m n words i j) =
+          rw (← s.sets i j p, ← s.nodes) (inside i j (subst (λ k. IsProperPair k i j) (sym s.nodes) p)) in
+      rw (relation_between-straight m n other i j o, relation_between-straight m n words i j o) at w);
+}
+
+module _ (m : Algebra) (n : ℕ) (words closure : List ℕ) (a b : Worklist) (net : IsNetwork m n words) (start : IsInStep m n words a) (r : IsRefinement m a b) where
+  -- what closed networks within become
+  kept : (other : List ℕ) → length other ≡ length words → IsClosed m n other → Refines other words → IsInside m other b
+  kept other l closed w =
+      let other-net : IsNetwork m n other = IsNetwork-refines m n other words net l w in
+      r.kept other (subst (λ k. IsNetwork m k other) (sym start.nodes) other-net) (subst (λ k. IsClosed m k other) (sym start.nodes) closed) (IsInside-refines m n words other a start w)
+
+  -- the sets, closed and stored
+  pub IsClosure-stored : AreClosed m b → IsInStep m n closure b → length closure ≡ length words → IsClosure m n words closure
+  IsClosure-stored closed stored l = record {
+    length_is = l;
+    closed = record {
+      each = λ i j k t. rw (← stored.sets i k (pair-outer n i j k t), ← stored.sets i j (pair-first n i j k t), ← stored.sets j k (pair-second n i j k t))
+          (closed i j k (subst (λ x. IsProperTriple x i j k) (sym stored.nodes) t));
+    };
+    within = Refines-inside m n words closure a start (l ∙ net.length_is) (λ i j p.
+        let q : IsProperPair n i j = subst (λ k. IsProperPair k i j) start.nodes p in
+        rw (start.nodes, ← stored.sets i j q) (r.within i j p));
+    greatest = λ other l' closed' w. Refines-inside m n closure other b stored (l' ∙ net.length_is) (kept other l' closed' w);
+  }
+
+  -- where a set is empty, all are in the closure
+  pub IsClosure-emptied : IsCalculus m → HasEmpty b → length closure ≡ length words → ((e : ℕ) → slice_index closure e ≡ 0) → IsClosure m n words closure
+  IsClosure-emptied c empty l z =
+      let none = λ (e x : ℕ). subst (λ y. IsWithin y x) (sym (z e)) (IsWithin-empty x) in
+      record {
+        length_is = l;
+        closed = record { each = λ i j k t. subst (λ y. IsWithin y (composition m (relation_between m n closure i j) (relation_between m n closure j k))) (sym (all-empty i k)) (IsWithin-empty _) };
+        within = record { each = λ e. none e (slice_index words e) };
+        greatest = λ other l' closed w. record {
+          each = λ e.
+              let other-net : IsNetwork m n other = IsNetwork-refines m n other words net l' w in
+              let p : IsProperPair n empty.first empty.second = subst (λ k. IsProperPair k empty.first empty.second) (r.nodes ∙ start.nodes) empty.proper in
+              let inside = kept other l' closed w empty.first empty.second empty.proper in
+              let at : relation_between m n other empty.first empty.second ≡ 0 = empty-within _ (rw (empty.empty, r.nodes ∙ start.nodes) at inside) in
+              subst (λ y. IsWithin y (slice_index closure e)) (sym (gone other empty.first empty.second c other-net closed p at e)) (IsWithin-empty _);
+        };
+      }
+    where
+      all-empty : (i k : ℕ) → relation_between m n closure i k ≡ 0
+      all-empty i k = elim (cases_lt i k) [
+        | inl h ↦ relation_between-straight m n closure i k h ∙ z (edge_at n i k)
+        | inr h ↦ relation_between-turned m n closure i k h ∙ ap (converse m) (z (edge_at n k i)) ∙ converse-empty m
+      ]
+      gone : (other : List ℕ) (i k : ℕ) → IsCalculus m → IsNetwork m n other → IsClosed m n other → IsProperPair n i k → relation_between m n other i k ≡ 0 → (e : ℕ) → slice_index other e ≡ 0
+      gone other i k c other-net closed p at e = elim (cases_lt i k) [
+        | inl o ↦ closed-empty m n (edge_at n i k) other c other-net closed (edge_at-lt n i k o p.second_below) (sym (relation_between-straight m n other i k o) ∙ at) e
+        | inr g ↦
+            (let o : k < i = omega (arith, p.differ) in
+            closed-empty m n (edge_at n k i) other c other-net closed (edge_at-lt n k i o p.first_below)
+            (sym (relation_between-straight m n other k i o) ∙ turned-empty m n other i k c other-net p.differ at) e)
+      ]

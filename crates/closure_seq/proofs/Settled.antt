@@ -1,0 +1,147 @@
+-- Each triple that isn't closed has a source edge that is queued.
+use Rattle.std.proofs.Common.{◌≡◌, ◌≢◌, ℕ, ◌+◌, ◌*◌, ◌<◌, ◌≤◌, Bool, true, false, cond, List, length, get_or, set, refl, sym, ◌∙◌, ap, subst, arith, ◌⊎◌, inl, inr, count_by}
+use Rattle.std.specs.Prelude.{bit_and, slice_index, slice_set}
+use Rattle.std.proofs.lemmas.Bool.{cases_lt, cases_eq}
+use Rattle.std.proofs.lemmas.List.{get_or-set_same}
+use Rattle.std.proofs.lemmas.List.Sums.{sum_by-set}
+use Rattle.calculus_table.specs.Rel.{IsWithin}
+use Rattle.calculus_table.specs.Algebra.{Algebra}
+use Rattle.calculus_table.specs.Composition.{full_of, composition, converse}
+use Rattle.calculus_table.specs.Calculus.{IsCalculus}
+use Rattle.calculus_table.proofs.Sets.{IsWithin-trans, IsWithin-meet, IsWithin-meet_l, IsWithin-meet_r, within-meet}
+use Rattle.calculus_table.proofs.Compositions.{converse-mono, converse-composition, composition-mono}
+use Rattle.network_words.specs.Edge.{IsProperPair, IsProperTriple, IsSamePair}
+use Rattle.network_words.specs.Network.{IsNetwork, relation_between}
+use Rattle.network_words.specs.Closure.{IsClosed}
+use Rattle.network_words.proofs.Pairs.{pair-swap, pair-first, pair-second, pair-outer, triple-swap}
+use Rattle.closure_seq.specs.Worklist.{Worklist, IsSized, IsQueued, IsWaiting, IsIdle, edge_place, set_of, work_left}
+use Rattle.closure_seq.specs.Propagation.{AreConverses, IsReady, IsInside, IsStep, HasEmpty, IsClosedAlong, IsSettledAt, IsSettled, IsSettledBut}
+use Rattle.closure_seq.proofs.Places.{edge_place-inside, same-place, same-cases, mark-kept, IsQueued-swap, pair-from_place}
+use Rattle.closure_seq.proofs.Steps.{refined, IsStep-refined, refined-first, refined-other}
+
+-- ---- one triple narrowed
+
+module _ (m : Algebra) (work : Worklist) (i j k : ℕ) (c : IsCalculus m) (s : AreConverses m work) (z : IsSized work) (t : IsProperTriple work.nodes i j k) where
+  pub IsClosedAlong-met : bit_and (set_of work i k) (composition m (set_of work i j) (set_of work j k)) ≡ set_of work i k → IsClosedAlong m work i j k
+  IsClosedAlong-met e = within-meet _ _ e
+
+  pub IsStep-narrowed : bit_and (set_of work i k) (composition m (set_of work i j) (set_of work j k)) ≢ set_of work i k →
+      IsStep m work (refined m work i k (bit_and (set_of work i k) (composition m (set_of work i j) (set_of work j k))))
+  IsStep-narrowed ne =
+      let n = work.nodes in
+      IsStep-refined m work i k _ c s z (pair-outer n i j k t) (IsWithin-meet_l _ _) ne (λ words net closed inside.
+      IsWithin-meet _ _ _ (inside i k (pair-outer n i j k t))
+      (IsWithin-trans _ _ _ (closed.each i j k t) (composition-mono m _ _ _ _ c.table (inside i j (pair-first n i j k t)) (inside j k (pair-second n i j k t)))))
+
+  pub IsClosedAlong-narrowed : IsClosedAlong m (refined m work i k (bit_and (set_of work i k) (composition m (set_of work i j) (set_of work j k)))) i j k
+  IsClosedAlong-narrowed =
+      let n = work.nodes in
+      let w = IsWithin-meet_l (set_of work i k) (composition m (set_of work i j) (set_of work j k)) in
+      let p = pair-outer n i j k t in
+      rw (
+        refined-first m work i k _ c s z p w,
+        refined-other m work i k _ c s z p w i j (pair-first n i j k t) (λ e. elim e [ inl u ↦ t.second_third u.1 | inr u ↦ t.first_third u.0 ]),
+        refined-other m work i k _ c s z p w j k (pair-second n i j k t) (λ e. elim e [ inl u ↦ t.first_second (sym u.0) | inr u ↦ t.second_third u.0 ]),
+      )
+      (IsWithin-meet_r (set_of work i k) (composition m (set_of work i j) (set_of work j k)))
+
+-- the same by what was read and computed
+module _ (m : Algebra) (work new : Worklist) (i j k x : ℕ) (c : IsCalculus m) (s : AreConverses m work) (z : IsSized work) (t : IsProperTriple work.nodes i j k)
+  (e : x ≡ bit_and (set_of work i k) (composition m (set_of work i j) (set_of work j k))) (stored : new ≡ refined m work i k x) where
+  pub step-read : x ≢ set_of work i k → IsStep m work new
+  step-read ne = rw (stored, e) (IsStep-narrowed m work i j k c s z t (λ h. ne (e ∙ h)))
+
+  pub closed-read : IsClosedAlong m new i j k
+  closed-read = rw (stored, e) (IsClosedAlong-narrowed m work i j k c s z t)
+
+  pub empty-read : x ≡ 0 → HasEmpty new
+  empty-read none =
+      let p = pair-outer work.nodes i j k t in
+      rw stored (record { first = i; second = k; proper = p; empty = refined-first m work i k x c s z p (subst (λ y. IsWithin y (set_of work i k)) (sym e) (IsWithin-meet_l _ _)) ∙ none })
+
+-- ---- settled triples
+
+IsClosedAlong-swap : (m : Algebra) (work : Worklist) (i j k : ℕ) → IsCalculus m → AreConverses m work → IsProperTriple work.nodes i j k → IsClosedAlong m work i j k → IsClosedAlong m work k j i
+IsClosedAlong-swap m work i j k c s t h =
+    let n = work.nodes in
+    rw (s.converse i k (pair-outer n i j k t), s.converse j k (pair-second n i j k t), s.converse i j (pair-first n i j k t))
+    (subst (IsWithin (converse m (set_of work i k))) (converse-composition m (set_of work i j) (set_of work j k) c) (converse-mono m _ _ h))
+
+IsSettledAt-swap : (m : Algebra) (work : Worklist) (i j k : ℕ) → IsCalculus m → AreConverses m work → IsProperTriple work.nodes i j k → IsSettledAt m work i j k → IsSettledAt m work k j i
+IsSettledAt-swap m work i j k c s t h = λ p q.
+    IsClosedAlong-swap m work i j k c s t (h (λ w. q (IsQueued-swap work i j t.first_second w)) (λ w. p (IsQueued-swap work j k t.second_third w)))
+
+-- a step keeps each triple settled
+pub IsSettledAt-step : (m : Algebra) (old new : Worklist) (i j k : ℕ) → IsStep m old new → IsProperTriple old.nodes i j k → IsSettledAt m old i j k → IsSettledAt m new i j k
+IsSettledAt-step m old new i j k p t h = λ q r.
+    let n = old.nodes in
+    let closed = h (λ w. q (p.stays i j w)) (λ w. r (p.stays j k w)) in
+    let ij = p.same i j (pair-first n i j k t) q in
+    let jk = p.same j k (pair-second n i j k t) r in
+    rw (ij, jk) (IsWithin-trans _ _ _ (p.within i k (pair-outer n i j k t)) closed)
+
+-- after the triples of an edge were propagated, both ways, every triple is settled
+pub IsSettled-propagated : (m : Algebra) (a b c : Worklist) (i j : ℕ) → IsCalculus m → IsSized a → IsProperPair a.nodes i j → IsSettledBut m a i j →
+    IsStep m a b → ((k : ℕ) → IsProperTriple a.nodes i j k → IsSettledAt m b i j k) →
+    IsStep m b c → ((k : ℕ) → IsProperTriple b.nodes j i k → IsSettledAt m c j i k) → IsSettled m c
+IsSettled-propagated m a b c i j k z pair but p first q second = λ x y w t'.
+    let ba : b.nodes ≡ a.nodes = p.nodes in
+    let cb : c.nodes ≡ b.nodes = q.nodes in
+    let t : IsProperTriple a.nodes x y w = subst (λ n. IsProperTriple n x y w) (cb ∙ ba) t' in
+    let forward = λ (d : ℕ) (s : IsProperTriple a.nodes i j d). IsSettledAt-step m b c i j d q (subst (λ n. IsProperTriple n i j d) (sym ba) s) (first d s) in
+    let backward = λ (d : ℕ) (s : IsProperTriple a.nodes j i d). second d (subst (λ n. IsProperTriple n j i d) (sym ba) s) in
+    elim (same-cases a.nodes x y i j z.bounded (pair-first a.nodes x y w t) pair) [
+      | inl same ↦ elim same [
+        | inl s ↦ rw (s.0, s.1) (forward w (rw (s.0, s.1) at t))
+        | inr s ↦ rw (s.0, s.1) (backward w (rw (s.0, s.1) at t))
+      ]
+      | inr ne ↦ elim (same-cases a.nodes y w i j z.bounded (pair-second a.nodes x y w t) pair) [
+        | inl same ↦ elim same [
+          | inl s ↦ rw (s.0, s.1) (IsSettledAt-swap m c j i x k q.sets (rw (s.0, s.1) at (triple-swap c.nodes x y w t')) (backward x (rw (s.0, s.1) at (triple-swap a.nodes x y w t))))
+          | inr s ↦ rw (s.0, s.1) (IsSettledAt-swap m c i j x k q.sets (rw (s.0, s.1) at (triple-swap c.nodes x y w t')) (forward x (rw (s.0, s.1) at (triple-swap a.nodes x y w t))))
+        ]
+        | inr ne' ↦ IsSettledAt-step m b c x y w q (subst (λ n. IsProperTriple n x y w) (sym ba) t) (IsSettledAt-step m a b x y w p t (but x y w t ne ne'))
+      ]
+    ]
+
+-- ---- an edge taken off the queue
+
+-- the worklist without the mark of the edge between i and j
+abbrev pub popped : Worklist → ℕ → ℕ → Worklist
+popped work i j = record work { queued = slice_set work.queued (edge_place i j) false }
+
+pub IsReady-queue : (m : Algebra) (planes : ℕ) (work : Worklist) (queued : List Bool) → IsReady m planes work → IsReady m planes (record work { queued = queued })
+IsReady-queue m planes work queued r = record {
+  calculus = r.calculus;
+  few = r.few;
+  enough = r.enough;
+  planes_are = r.planes_are;
+  sets = record { within = r.sets.within; converse = r.sets.converse };
+}
+
+pub IsSettledBut-popped : (m : Algebra) (work : Worklist) (i j : ℕ) → IsSized work → IsProperPair work.nodes i j → IsSettled m work → IsSettledBut m (popped work i j) i j
+IsSettledBut-popped m work i j z pair h = λ a b c t ne ne' p q.
+    let n = work.nodes in
+    let kept = λ (x y : ℕ) (xy : IsProperPair n x y) (differ : ¬ IsSamePair x y i j) (w : IsQueued work x y).
+    mark-kept work.queued (edge_place i j) (edge_place x y) false w (inl (λ e. differ (pair-from_place n x y i j z.bounded xy pair e))) in
+    h a b c t (λ w. p (kept a b (pair-first n a b c t) ne w)) (λ w. q (kept b c (pair-second n a b c t) ne' w))
+
+count-cleared : (xs : List Bool) (e : ℕ) → e < length xs → get_or xs e false ≡ true → count_by (λ b. b) (set xs e false) + 1 ≡ count_by (λ b. b) xs
+count-cleared xs e l h = omega (arith, rw h at (sum_by-set (λ (b : Bool). cond b 1 0) xs e false false l))
+
+pub work_left-popped : (work : Worklist) (i j : ℕ) → IsSized work → IsProperPair work.nodes i j → IsQueued work i j → work_left (popped work i j) < work_left work
+work_left-popped work i j z pair h =
+    let e = edge_place i j in
+    let inside : e < length work.queued = omega (arith, z.queued_length, edge_place-inside work.nodes i j z.bounded pair) in
+    omega (arith, count-cleared work.queued e inside h)
+
+-- where no edge is queued every triple is closed
+pub quiet-idle : (work : Worklist) → ((i : ℕ) → i < work.nodes → IsIdle work i) → (i j : ℕ) → IsProperPair work.nodes i j → ¬ IsQueued work i j
+quiet-idle work idle i j p w = elim (cases_lt i j) as (λ _. ⊥) [
+  | inl l ↦ idle i p.first_below j l p.second_below w
+  | inr g ↦ idle j p.second_below i (omega (arith, p.differ)) p.first_below (IsQueued-swap work i j p.differ w)
+]
+
+pub IsClosedAlong-idle : (m : Algebra) (work : Worklist) → IsSettled m work → ((i : ℕ) → i < work.nodes → IsIdle work i) → (i j k : ℕ) → IsProperTriple work.nodes i j k → IsClosedAlong m work i j k
+IsClosedAlong-idle m work h idle i j k t =
+    h i j k t (quiet-idle work idle i j (pair-first work.nodes i j k t)) (quiet-idle work idle j k (pair-second work.nodes i j k t))

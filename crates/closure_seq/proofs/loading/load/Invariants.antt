@@ -1,0 +1,10 @@
+use Rattle.std.proofs.Common.{◌≡◌}
+use Rattle.closure_seq.specs.Propagation.{IsLoaded}
+use Rattle.closure_seq.proofs.loading.load.Given as goal
+
+abbrev pub invariant-loop-i : goal.invariant-loop-i
+invariant-loop-i g l = record {
+  nodes : l.work.nodes ≡ l.net.nodes;
+  planes : l.work.planes ≡ l.initial.work.planes;
+  loaded : IsLoaded (g.C.Compose.algebra l.c) l.net.nodes l.net.words l.work l.i;
+}

@@ -1,0 +1,13 @@
+use Rattle.std.proofs.lemmas.Result.{on_ok_weaker}
+use Rattle.network_words.proofs.Pairs.{pair-swap}
+use Rattle.closure_seq.proofs.Steps.{IsStep-trans, IsReady-step, pair-step}
+use Rattle.closure_seq.proofs.Settled.{IsSettled-propagated}
+use Rattle.closure_seq.proofs.propagation.propagate.Goals as goal
+
+pub returns-clause-settled : goal.returns-clause-settled
+returns-clause-settled g c =
+    let one = c.in_ok-propagate_from.ensures in
+    on_ok_weaker c.propagate_from-2.result
+    (λ second. IsSettled-propagated (g.C.Compose.algebra c.args.c.now) c.args.work.now c.propagate_from.new.work c.propagate_from-2.new.work c.args.i c.args.j
+    c.requires.ready.calculus c.nodes-nodes.ensures.sized c.requires.proper c.requires.settled one.step one.settled c.propagate_from-2.ensures.step second)
+    c.propagate_from-2.ensures.settled

@@ -1,0 +1,273 @@
+//! The sets of all ordered pairs of nodes, and the queue of edges whose triples are to be looked at.
+//!
+//! A set is kept twice: as a word, and as bytes in planes, which `compose_fast::Tables` reads 16 at a time. The set of a pair
+//! with itself is that of the identity, which is within every composition of a set with its converse.
+//!
+//! An edge is queued where its mark says so. The order only proposes which of them comes next; where its proposal isn't queued,
+//! the first mark is taken.
+
+ghost use Rattle.std.specs.Prelude.{◌≡◌, IfOk, replicate, false};
+
+use crate::order::Order;
+use calculus_table::{Memory, Rel};
+use compose_fast::put_set;
+use std::alloc::Global;
+use std::marker::Model;
+
+/// `count` empty sets.
+fn empty_sets(alloc: Global, count: usize) -> Result<Vec<Rel>, Memory>
+    ensures { IfOk result (λ sets. sets.items ≡ replicate count 0) }
+{
+    vec![in alloc; Rel::EMPTY; count].map_err(|_| Memory)
+}
+
+/// `count` bytes, each 0.
+fn empty_bytes(alloc: Global, count: usize) -> Result<Vec<u8>, Memory>
+    ensures { IfOk result (λ bytes. bytes.items ≡ replicate count 0) }
+{
+    vec![in alloc; 0; count].map_err(|_| Memory)
+}
+
+/// `count` marks, none of them set.
+fn unset_marks(alloc: Global, count: usize) -> Result<Vec<bool>, Memory>
+    ensures { IfOk result (λ marks. marks.items ≡ replicate count false) }
+{
+    vec![in alloc; false; count].map_err(|_| Memory)
+}
+
+/// The sets of the ordered pairs of so many nodes, and the edges that are queued.
+#[derive(Debug, Drop)]
+pub(crate) struct PairSets {
+    nodes: u32,
+    planes: usize,
+    sets: Vec<Rel>,
+    bytes: Vec<u8>,
+    queued: Vec<bool>,
+    order: Order,
+}
+
+impl Model for PairSets {
+    ghost use Rattle.closure_seq.specs.Worklist.{Worklist, IsSized, AreBytesOf};
+
+    ghost Value = { Worklist };
+
+    ghost view = { λ a. record { nodes = a.nodes; planes = a.planes; sets = a.sets.items; queued = a.queued.items } };
+
+    ghost invariant = { λ a.
+        IsSized (record { nodes = a.nodes; planes = a.planes; sets = a.sets.items; queued = a.queued.items })
+        × AreBytesOf (record { nodes = a.nodes; planes = a.planes; sets = a.sets.items; queued = a.queued.items }) a.bytes.items };
+}
+
+impl PairSets {
+    ghost use Rattle.std.specs.Prelude.{◌≡◌, ℕ, ◌+◌, ◌*◌, ◌<◌, ◌≤◌, ◌↔◌, true, false, IsTrue, IfOk, IfSome, IfNone, MatchOption, length, slice_set};
+    ghost use Rattle.network_words.specs.Edge.{IsProperPair};
+    ghost use Rattle.network_words.specs.declared.TheConstants.{MAX_NODES};
+    ghost use Rattle.closure_seq.specs.Worklist.{Worklist, IsSized, AreBytesOf, IsWaiting, IsIdle, IsQueued, IsBegun, set_of, edge_place};
+
+    /// Room for so many nodes.
+    pub(crate) fn new(alloc: Global, nodes: u32) -> Result<PairSets, Memory>
+        requires some { 0 < nodes }
+        requires bounded { nodes ≤ MAX_NODES }
+        ensures { IfOk result (λ work. work.nodes ≡ nodes) }
+    {
+        let places = (256 * nodes) as usize;
+        let sets = empty_sets(alloc, places)?;
+        let bytes = empty_bytes(alloc, 524288)?;
+        let queued = unset_marks(alloc, places)?;
+        let order = Order::new(alloc, places)?;
+        Ok(PairSets {
+            nodes,
+            planes: 8,
+            sets,
+            bytes,
+            queued,
+            order,
+        })
+    }
+
+    /// The number of nodes.
+    #[inline(always)]
+    pub(crate) fn nodes(&self) -> u32
+        ensures value { result ≡ self.now.nodes }
+        ensures sized { IsSized self.now }
+    {
+        self.nodes
+    }
+
+    /// The set of the pair `(i, j)`.
+    #[inline(always)]
+    pub(crate) fn set(&self, i: u32, j: u32) -> Rel
+        requires first { i < self.now.nodes }
+        requires second { j < self.now.nodes }
+        ensures { result ≡ set_of self.now i j }
+    {
+        self.sets[(256 * i + j) as usize]
+    }
+
+    /// The planes of the sets.
+    #[inline(always)]
+    pub(crate) fn bytes(&self) -> &[u8]
+        ensures { AreBytesOf self.now result.now }
+    {
+        &self.bytes
+    }
+
+    /// Keeps the sets in so many planes from now on. The sets may be others afterwards.
+    pub(crate) fn set_planes(&mut self, planes: usize)
+        requires { planes ≤ 8 }
+        ensures { self.new ≡ record self.old { planes = planes; sets = self.new.sets } }
+    {
+        if self.planes < planes {
+            self.sets.fill(Rel::EMPTY);
+            self.bytes.fill(0);
+        }
+        self.planes = planes;
+    }
+
+    /// Sets the set of the pair `(i, j)`.
+    #[inline(always)]
+    pub(crate) fn put<const P: usize>(&mut self, i: u32, j: u32, rel: Rel)
+        requires planes { self.old.planes ≡ P }
+        requires first { i < self.old.nodes }
+        requires second { j < self.old.nodes }
+        ensures value { self.new ≡ record self.old { sets = slice_set self.old.sets (256 * i + j) rel } }
+        ensures sized { IsSized self.old }
+    {
+        let _ = &self.nodes;
+        let place = (256 * i + j) as usize;
+        self.sets[place] = rel;
+        put_set::<P>(&mut self.bytes, place, rel);
+    }
+
+    /// Queues the edge between `i` and `j`, whose set has so many members.
+    #[inline(always)]
+    pub(crate) fn push(&mut self, i: u32, j: u32, members: u32)
+        requires { IsProperPair self.old.nodes i j }
+        ensures value { self.new ≡ record self.old { queued = slice_set self.old.queued (edge_place i j) true } }
+        ensures sized { IsSized self.old }
+    {
+        let _ = &self.nodes;
+        let place = if i < j { 256 * i + j } else { 256 * j + i };
+        self.queued[place as usize] = true;
+        self.order.put(place as u16, members);
+    }
+
+    /// Whether the edge from `i` to `j` is queued.
+    fn is_queued(&self, i: u32, j: u32) -> bool
+        requires order { i < j }
+        requires below { j < self.now.nodes }
+        ensures { IsTrue result ↔ IsQueued self.now i j }
+    {
+        self.queued[(256 * i + j) as usize]
+    }
+
+    /// The edge that the order proposes, if it is queued.
+    fn proposed(&mut self) -> Option<(u32, u32)>
+        ensures same { self.new ≡ self.old }
+        ensures edge { IfSome result (λ e. IsWaiting self.old e.0 e.1) }
+    {
+        let place = self.order.take()?;
+        let i = u32::from(place) / 256;
+        let j = u32::from(place) % 256;
+        if i < j && j < self.nodes && self.is_queued(i, j) {
+            Some((i, j))
+        } else {
+            None
+        }
+    }
+
+    /// The first edge from `i` to a greater node that is queued.
+    fn first_in_row(&self, i: u32) -> Option<u32>
+        requires { i < self.now.nodes }
+        ensures { MatchOption result (IsIdle self.now i) (λ j. IsWaiting self.now i j) }
+    {
+        let nodes = self.nodes();
+        for j in i + 1..nodes {
+            if self.is_queued(i, j) {
+                return Some(j);
+            }
+        }
+        None
+    }
+
+    /// The first edge that is queued.
+    fn first_queued(&self) -> Option<(u32, u32)>
+        ensures { MatchOption result ((i : ℕ) → i < self.now.nodes → IsIdle self.now i) (λ e. IsWaiting self.now e.0 e.1) }
+    {
+        let nodes = self.nodes();
+        for i in 0..nodes {
+            if let Some(j) = self.first_in_row(i) {
+                return Some((i, j));
+            }
+        }
+        None
+    }
+
+    /// An edge that is queued: the one that the order proposes, or where that fails the first.
+    fn next_queued(&mut self) -> Option<(u32, u32)>
+        ensures same { self.new ≡ self.old }
+        ensures edge { MatchOption result ((i : ℕ) → i < self.old.nodes → IsIdle self.old i) (λ e. IsWaiting self.old e.0 e.1) }
+    {
+        if let Some(edge) = self.proposed() {
+            return Some(edge);
+        }
+        self.first_queued()
+    }
+
+    /// Takes an edge off the queue.
+    pub(crate) fn pop(&mut self) -> Option<(u32, u32)>
+        ensures idle { IfNone result ((self.new ≡ self.old) × ((i : ℕ) → i < self.old.nodes → IsIdle self.old i)) }
+        ensures queued { IfSome result (λ e. IsWaiting self.old e.0 e.1) }
+        ensures taken { IfSome result (λ e. self.new ≡ record self.old { queued = slice_set self.old.queued (edge_place e.0 e.1) false }) }
+        ensures sized { IsSized self.old }
+    {
+        let _ = &self.nodes;
+        let (i, j) = self.next_queued()?;
+        self.queued[(256 * i + j) as usize] = false;
+        Some((i, j))
+    }
+
+    /// Takes every edge off the queue.
+    pub(crate) fn clear(&mut self)
+        ensures { self.new ≡ record self.old { queued = self.new.queued } }
+    {
+        self.queued.fill(false);
+        self.order.clear();
+    }
+
+    /// The number of blocks of 16 nodes.
+    pub(crate) fn blocks(&self) -> u32
+        ensures enough { self.now.nodes ≤ 16 * result }
+        ensures few { result ≤ 16 }
+    {
+        (self.nodes + 15) / 16
+    }
+
+    /// Queues the edges from `i` to greater nodes whose set isn't `full`.
+    fn push_row(&mut self, full: Rel, i: u32)
+        requires below { i < self.old.nodes }
+        requires before { IsBegun self.old full i }
+        ensures rest { self.new ≡ record self.old { queued = self.new.queued } }
+        ensures begun { IsBegun self.new full (i + 1) }
+    {
+        let nodes = self.nodes();
+        for j in i + 1..nodes {
+            let rel = self.set(i, j);
+            if rel != full {
+                self.push(i, j, rel.count());
+            }
+        }
+    }
+
+    /// Queues the edges whose set isn't `full`, and no other.
+    pub(crate) fn push_lesser(&mut self, full: Rel)
+        ensures rest { self.new ≡ record self.old { queued = self.new.queued } }
+        ensures begun { IsBegun self.new full self.new.nodes }
+    {
+        self.clear();
+        let nodes = self.nodes();
+        for i in 0..nodes {
+            self.push_row(full, i);
+        }
+    }
+}

@@ -1,0 +1,6 @@
+use Rattle.std.proofs.Common.{◌≡◌, ◌*◌, ◌%◌, ◌^◌}
+use Rattle.calculus_table.specs.Composition.{row_composition}
+use Rattle.compose_fast.proofs.fast.Fast.compose_base.Given as goal
+
+abbrev pub invariant-loop-h : goal.invariant-loop-h
+invariant-loop-h l = l.all ≡ row_composition l.self l.r (l.b % 2 ^ (4 * l.h))

@@ -1,0 +1,17 @@
+-- The tables by which a calculus composes sets and turns them round.
+use Rattle.std.specs.Prelude.{◌≡◌, ℕ, ◌+◌, ◌*◌, ◌<◌, ◌≤◌, List, length, slice_index}
+use Rattle.calculus_table.specs.Algebra.{Algebra}
+use Rattle.calculus_table.specs.Composition.{full_of}
+use Rattle.calculus_table.specs.Calculus.{IsCalculus}
+use Rattle.compose_fast.specs.Nibbles.{composition_at, converse_of_place}
+
+-- of each base relation r its compositions with the sets of the places at 256 r, and the converses of those sets
+pub record AreFastTables (m : Algebra) (full nibbles : ℕ) (rows converses : List ℕ) : Type 0 where
+  pub calculus : IsCalculus m
+  pub full_is : full ≡ full_of m
+  pub enough : m.size ≤ 4 * nibbles
+  pub few : nibbles ≤ 16
+  pub rows_length : length rows ≡ 256 * m.size
+  pub rows_each : (r d : ℕ) → r < m.size → d < 256 → slice_index rows (256 * r + d) ≡ composition_at m r d
+  pub converses_length : length converses ≡ 256
+  pub converses_each : (d : ℕ) → d < 256 → slice_index converses d ≡ converse_of_place m d

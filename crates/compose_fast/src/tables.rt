@@ -1,0 +1,246 @@
+//! Composition of one set with 16 others at once.
+//!
+//! The sets lie in planes: plane `p` has a byte for each set, its members `8 p .. 8 p + 7`. A calculus of up to 8 base relations
+//! needs one plane, of up to 16 two, of up to 32 four and of up to 64 eight; the number is a constant `P` of the code, so that
+//! the loops over planes are unrolled.
+//!
+//! For each base relation there is a table of 32 P bytes a plane: for each nibble of a set, its 16 values. The tables of a set
+//! are the unions of those of its members, 2 P vectors a plane. What a set gives composed with 16 others is then read by 2 P
+//! shuffles a plane (Mula 2016 tells the method for counting bits).
+
+ghost use Rattle.std.specs.Prelude.{◌≡◌, ◌≢◌, ℕ, ◌+◌, ◌*◌, ◌<◌, ◌≤◌, ◌↔◌, length, slice_index, replicate, IfOk, bit_and, bit_or};
+ghost use Rattle.calculus_table.specs.Rel.{Has};
+ghost use Rattle.calculus_table.specs.Calculus.{IsCalculus};
+ghost use Rattle.compose_fast.specs.Lanes.{HasLanes};
+ghost use Rattle.compose_fast.specs.Nibbles.{byte, composition_at};
+ghost use Rattle.compose_fast.specs.Planes.{along_at, IsWithinAlong};
+
+use crate::members::without;
+use crate::nibbles::composition_at;
+use crate::vectors::{along, both, differing, either, load, store};
+use calculus_table::{Compose, Memory, Rel, lawful};
+use std::alloc::Global;
+use std::marker::Model;
+use std::simd::prelude::*;
+
+/// The number of bytes of a plane: one for each pair of nodes.
+pub const PLANE: usize = 65536;
+
+/// The tables of the base relations of a calculus, and those of one set.
+#[derive(Debug, Drop)]
+pub struct Tables {
+    bases: Vec<u8>,
+    set: Vec<u8>,
+}
+
+impl Model for Tables {
+    ghost use Rattle.std.specs.Prelude.{◌≡◌, length};
+    ghost use Rattle.compose_fast.specs.Planes.{SetTables};
+
+    ghost Value = { SetTables };
+
+    ghost view = { λ a. record { bases = a.bases.items; set = a.set.items } };
+
+    ghost invariant = { λ a. (length a.bases.items ≡ 131072) × (length a.set.items ≡ 2048) };
+}
+
+/// Writes a set into the planes: its byte `p` at place `at` of plane `p`.
+#[inline(always)]
+pub fn put_set<const P: usize>(bytes: &mut [u8], at: usize, a: Rel)
+    requires few { P ≤ 8 }
+    requires inside { at < 65536 }
+    requires bytes_length { length bytes.old ≡ 524288 }
+    ensures here { (p : ℕ) → p < P → slice_index bytes.new (65536 * p + at) ≡ byte a p }
+    ensures elsewhere { (e : ℕ) → ((p : ℕ) → p < P → e ≢ 65536 * p + at) → slice_index bytes.new e ≡ slice_index bytes.old e }
+{
+    for p in 0..P {
+        bytes[PLANE * p + at] = (a.word() >> (8 * p) & 255) as u8;
+    }
+}
+
+/// `count` bytes, each 0.
+fn zeros(alloc: Global, count: usize) -> Result<Vec<u8>, Memory>
+    ensures { IfOk result (λ bytes. bytes.items ≡ replicate count 0) }
+{
+    vec![in alloc; 0; count].map_err(|_| Memory)
+}
+
+/// Writes the bytes of a set, byte `p` at `at + 256 p`.
+fn put_bytes<const P: usize>(bytes: &mut [u8], at: usize, a: Rel)
+    requires few { P ≤ 8 }
+    requires inside { at + 256 * P ≤ length bytes.old + 255 }
+    ensures here { (p : ℕ) → p < P → slice_index bytes.new (256 * p + at) ≡ byte a p }
+    ensures elsewhere { (e : ℕ) → ((p : ℕ) → p < P → e ≢ 256 * p + at) → slice_index bytes.new e ≡ slice_index bytes.old e }
+{
+    for p in 0..P {
+        bytes[256 * p + at] = (a.word() >> (8 * p) & 255) as u8;
+    }
+}
+
+/// Clears the 16-byte blocks of plane `p`.
+fn clear_plane<const P: usize>(set: &mut [u8], p: usize)
+    requires few { P ≤ 8 }
+    requires plane { p < P }
+    requires length_is { length set.old ≡ 2048 }
+    ensures here { (d : ℕ) → d < 32 * P → slice_index set.new (256 * p + d) ≡ 0 }
+    ensures before { (e : ℕ) → e < 256 * p → slice_index set.new e ≡ slice_index set.old e }
+{
+    for u in 0..2 * P {
+        store(set, 256 * p + 16 * u, u8x16::splat(0));
+    }
+}
+
+/// Clears the table of a set.
+fn clear<const P: usize>(set: &mut [u8])
+    requires few { P ≤ 8 }
+    requires length_is { length set.old ≡ 2048 }
+    ensures { (p d : ℕ) → p < P → d < 32 * P → slice_index set.new (256 * p + d) ≡ 0 }
+{
+    for p in 0..P {
+        clear_plane::<P>(set, p);
+    }
+}
+
+/// Adds plane `p` of the table of base relation `r`.
+#[inline(always)]
+fn add_plane<const P: usize>(set: &mut [u8], bases: &[u8], r: usize, p: usize)
+    requires few { P ≤ 8 }
+    requires base { r < 64 }
+    requires plane { p < P }
+    requires length_is { length set.old ≡ 2048 }
+    requires bases_length { length bases.now ≡ 131072 }
+    ensures here { (d : ℕ) → d < 32 * P →
+        slice_index set.new (256 * p + d) ≡ bit_or (slice_index set.old (256 * p + d)) (slice_index bases.now (2048 * r + 256 * p + d)) }
+    ensures before { (e : ℕ) → e < 256 * p → slice_index set.new e ≡ slice_index set.old e }
+    ensures after { (e : ℕ) → 256 * p + 32 * P ≤ e → slice_index set.new e ≡ slice_index set.old e }
+{
+    for u in 0..2 * P {
+        let at = 256 * p + 16 * u;
+        let sum = either(load(set, at), load(bases, 2048 * r + at));
+        store(set, at, sum);
+    }
+}
+
+/// Adds the table of base relation `r`.
+#[inline(always)]
+fn add_base<const P: usize>(set: &mut [u8], bases: &[u8], r: usize)
+    requires few { P ≤ 8 }
+    requires base { r < 64 }
+    requires length_is { length set.old ≡ 2048 }
+    requires bases_length { length bases.now ≡ 131072 }
+    ensures { (p d : ℕ) → p < P → d < 32 * P →
+        slice_index set.new (256 * p + d) ≡ bit_or (slice_index set.old (256 * p + d)) (slice_index bases.now (2048 * r + 256 * p + d)) }
+{
+    for p in 0..P {
+        add_plane::<P>(set, bases, r, p);
+    }
+}
+
+/// Plane `p` of what the tables of a set give for the 16 sets from place `at` on.
+#[inline(always)]
+fn along_plane<const P: usize>(set: &[u8], bytes: &[u8], p: usize, at: usize) -> u8x16
+    requires few { P ≤ 8 }
+    requires plane { p < P }
+    requires inside { at + 16 ≤ 65536 }
+    requires set_length { length set.now ≡ 2048 }
+    requires bytes_length { length bytes.now ≡ 524288 }
+    ensures { HasLanes 16 result (λ k. along_at set.now bytes.now P p (at + k)) }
+{
+    let mut all = u8x16::splat(0);
+    for q in 0..P {
+        let table = 256 * p + 32 * q;
+        let low = load(set, table);
+        let high = load(set, table + 16);
+        all = either(all, along(low, high, load(bytes, PLANE * q + at)));
+    }
+    all
+}
+
+/// A bit for each of the 16 sets from place `here` on that isn't within what the tables of a set give for the one as far from
+/// `there` on.
+#[inline(always)]
+fn open_lanes<const P: usize>(set: &[u8], bytes: &[u8], here: usize, there: usize) -> u64
+    requires few { P ≤ 8 }
+    requires inside { here + 16 ≤ 65536 }
+    requires inside_too { there + 16 ≤ 65536 }
+    requires set_length { length set.now ≡ 2048 }
+    requires bytes_length { length bytes.now ≡ 524288 }
+    ensures clear { (k : ℕ) → k < 16 → ¬ Has result k → IsWithinAlong set.now bytes.now P (here + k) (there + k) }
+    ensures gap { (k : ℕ) → k < 16 → Has result k → ¬ IsWithinAlong set.now bytes.now P (here + k) (there + k) }
+    ensures below { (k : ℕ) → Has result k → k < 16 }
+{
+    let mut gaps = 0;
+    for p in 0..P {
+        let v = load(bytes, PLANE * p + here);
+        gaps |= differing(both(v, along_plane::<P>(set, bytes, p, there)), v);
+    }
+    gaps
+}
+
+impl Tables {
+    ghost use Rattle.std.specs.Prelude.{◌≡◌, ℕ, ◌+◌, ◌*◌, ◌<◌, ◌≤◌, length};
+    ghost use Rattle.calculus_table.specs.Rel.{Has, IsWithin};
+    ghost use Rattle.calculus_table.specs.Calculus.{IsCalculus};
+    ghost use Rattle.calculus_table.specs.Composition.{full_of};
+    ghost use Rattle.compose_fast.specs.Planes.{AreBaseTables, AreTablesOf, IsWithinAlong};
+
+    /// Room for the tables of a calculus of any size.
+    pub fn new(alloc: Global) -> Result<Tables, Memory> {
+        let bases = zeros(alloc, 131072)?;
+        let set = zeros(alloc, 2048)?;
+        Ok(Tables { bases, set })
+    }
+
+    /// Makes the tables of the base relations of `c`.
+    pub fn fill<C: Compose, const P: usize>(&mut self, c: &C)
+        requires few { P ≤ 8 }
+        ensures { AreBaseTables (C.algebra c.now) P self.new.bases }
+    {
+        lawful(c);
+        let size = c.size();
+        let bases = self.bases.as_mut_slice();
+        for e in 0..256 * size {
+            let r = e / 256;
+            let d = e % 256;
+            if (d as usize) < 32 * P {
+                put_bytes::<P>(bases, (2048 * r + d) as usize, composition_at(c, r, d));
+            }
+        }
+    }
+
+    /// Makes the tables of the set `a`.
+    #[inline(always)]
+    pub fn take<C: Compose, const P: usize>(&mut self, c: &C, a: Rel)
+        requires few { P ≤ 8 }
+        requires within { IsWithin a (full_of (C.algebra c.now)) }
+        requires bases { AreBaseTables (C.algebra c.now) P self.old.bases }
+        ensures set { AreTablesOf (C.algebra c.now) P a self.new.set }
+        ensures bases { self.new.bases ≡ self.old.bases }
+    {
+        lawful(c);
+        let bases = self.bases.as_slice();
+        let set = self.set.as_mut_slice();
+        clear::<P>(set);
+        let mut left = a;
+        while !left.is_empty() {
+            let r = left.least();
+            add_base::<P>(set, bases, r as usize);
+            left = without(left, r);
+        }
+    }
+
+    /// A bit for each of the 16 sets from place `here` on that isn't within the composition of the taken set with the one as
+    /// far from `there` on, byte by byte.
+    #[inline(always)]
+    pub fn open_lanes<const P: usize>(&self, bytes: &[u8], here: usize, there: usize) -> u64
+        requires few { P ≤ 8 }
+        requires inside { here + 16 ≤ 65536 }
+        requires inside_too { there + 16 ≤ 65536 }
+        requires bytes_length { length bytes.now ≡ 524288 }
+        ensures clear { (k : ℕ) → k < 16 → ¬ Has result k → IsWithinAlong self.now.set bytes.now P (here + k) (there + k) }
+        ensures gap { (k : ℕ) → k < 16 → Has result k → ¬ IsWithinAlong self.now.set bytes.now P (here + k) (there + k) }
+        ensures below { (k : ℕ) → Has result k → k < 16 }
+    {
+        open_lanes::<P>(&self.set, bytes, here, there)
+    }
+}
