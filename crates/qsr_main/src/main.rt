@@ -1,14 +1,12 @@
-//! The program: the words, standard input and standard output, handed to the top call.
+//! The program: the words, the files, standard input and standard output, handed to the top call.
 #![tactic(auto)]
 
-mod streams;
-
 use qsr_outside::NoGate;
+use qsr_real::{FileShelf, StdSink, StdSource};
 use qsr_top::{Status, run};
 use std::process::ExitCode;
 use std::rt::Env;
 use std::{env, io};
-use streams::{NoShelf, StdSink, StdSource};
 
 /// The arguments after the program's name.
 fn arguments(rt: &(impl Env + AllocGlobal)) -> io::Result<Vec<String>> {
@@ -27,7 +25,7 @@ fn main(rt: HostRuntime) -> ExitCode {
         }
         Err(_) => return ExitCode::from(Status::Usage.code()),
     };
-    let mut shelf = NoShelf::new();
+    let mut shelf = FileShelf::new(&rt);
     let mut source = StdSource::new(rt.stdin());
     let mut sink = StdSink::new(rt.stdout());
     let status = run(

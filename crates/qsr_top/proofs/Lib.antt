@@ -2,4 +2,3 @@ pub mod Parts
 pub mod InputsOnce
 pub mod OneOutput
 pub mod Answering
-pub mod FileNetworks

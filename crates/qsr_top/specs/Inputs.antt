@@ -14,13 +14,13 @@ use Rattle.qsr_outside.specs.Documents.{Documents, document}
 use Rattle.qsr_top.specs.Stops.{Cause, refuses, is_long}
 use Rattle.qsr_top.specs.Parts.{Then}
 use Rattle.qsr_top.specs.Numbers.{load_refusal, file_refusal}
-use Rattle.qsr_top.specs.declared.TheConstants.{SOURCE_LIMIT}
+use Rattle.qsr_lex.specs.declared.TheConstants.{MAX_TEXT}
 use Rattle.qsr_top.specs.declared.statuses.Place.{Place}
 
 -- the bytes, within the limit
 abbrev pub BytesWithin : List ℕ → Result (List ℕ) Cause → Type 0
-BytesWithin bytes (Ok text) = (length bytes ≤ SOURCE_LIMIT) × (text ≡ bytes)
-BytesWithin bytes (Err is_long) = SOURCE_LIMIT < length bytes
+BytesWithin bytes (Ok text) = (length bytes ≤ MAX_TEXT) × (text ≡ bytes)
+BytesWithin bytes (Err is_long) = MAX_TEXT < length bytes
 BytesWithin bytes (Err (refuses number place)) = ⊥
 
 -- the bytes of the document of a name, within the limit; a name that no document has gives no value and no cause

@@ -13,7 +13,7 @@ ghost use Rattle.qsr_top.specs.Output.{IsVerdict, ClosesNetwork, CloseInput, Wor
 ghost use Rattle.qsr_top.specs.SinkAfter.{IsVerdictStatus};
 ghost use Rattle.qsr_top.specs.Told.{WhereTold, SourceWaits};
 
-use crate::SOURCE_LIMIT;
+use qsr_lex::MAX_TEXT;
 use crate::answers::Answer;
 use crate::inputs::{calculus, network};
 use crate::statuses::Status;
@@ -48,9 +48,9 @@ pub(crate) fn close_answer<F: Shelf, S: Source>(
         → Rose (F.faults shelf.old) (F.faults shelf.new)
         ⊎ Rose (S.faults source.old) (S.faults source.new) }
     ensures too_long { result ≡ Err Stop.TooLong
-        → RoseAbove (F.given shelf.old) (F.given shelf.new) SOURCE_LIMIT
-        ⊎ RoseAbove (S.given source.old) (S.given source.new) SOURCE_LIMIT }
-    ensures above { S.given source.old + SOURCE_LIMIT < S.given source.new → IsTooLongStop result }
+        → RoseAbove (F.given shelf.old) (F.given shelf.new) MAX_TEXT
+        ⊎ RoseAbove (S.given source.old) (S.given source.new) MAX_TEXT }
+    ensures above { S.given source.old + MAX_TEXT < S.given source.new → IsTooLongStop result }
     ensures faults_are_told { (result ≡ Err Stop.ReadFault)
         ⊎ ((F.faults shelf.new ≡ F.faults shelf.old) × (S.faults source.new ≡ S.faults source.old)) }
     ensures source_faults { S.faults source.old ≤ S.faults source.new }

@@ -9,7 +9,7 @@ ghost use Rattle.qsr_top.specs.Parts.{Then};
 ghost use Rattle.qsr_top.specs.Inputs.{CalculusOf, DocumentOf, NetworkOf, SourceNetwork, TableOf, builtin_of};
 ghost use Rattle.qsr_top.specs.Told.{told_for};
 
-use crate::SOURCE_LIMIT;
+use qsr_lex::MAX_TEXT;
 use crate::stops::{Stop, file_stop, load_stop};
 use calculus_builtin::{allen, point, rcc8};
 use calculus_table::{Calculus, Memory};
@@ -27,7 +27,7 @@ pub(crate) fn calculus<F: Shelf>(alloc: Global, shelf: &mut F, word: &str) -> Re
     ensures read_fault { result ≡ Err Stop.ReadFault
         → Rose (F.faults shelf.old) (F.faults shelf.new) }
     ensures too_long { result ≡ Err Stop.TooLong
-        → RoseAbove (F.given shelf.old) (F.given shelf.new) SOURCE_LIMIT }
+        → RoseAbove (F.given shelf.old) (F.given shelf.new) MAX_TEXT }
     ensures faults_are_told { (result ≡ Err Stop.ReadFault)
         ⊎ (F.faults shelf.new ≡ F.faults shelf.old) }
     ensures faults_never_fall { F.faults shelf.old ≤ F.faults shelf.new }
@@ -60,13 +60,13 @@ pub(crate) fn network<S: Source>(
     ensures read_fault { result ≡ Err Stop.ReadFault
         → Rose (S.faults source.old) (S.faults source.new) }
     ensures too_long { result ≡ Err Stop.TooLong
-        → RoseAbove (S.given source.old) (S.given source.new) SOURCE_LIMIT }
-    ensures above { S.given source.old + SOURCE_LIMIT < S.given source.new → IsTooLongStop result }
+        → RoseAbove (S.given source.old) (S.given source.new) MAX_TEXT }
+    ensures above { S.given source.old + MAX_TEXT < S.given source.new → IsTooLongStop result }
     ensures faults_are_told { (result ≡ Err Stop.ReadFault)
         ⊎ (S.faults source.new ≡ S.faults source.old) }
     ensures faults_never_fall { S.faults source.old ≤ S.faults source.new }
 {
-    match read_all(alloc, source, SOURCE_LIMIT) {
+    match read_all(alloc, source, MAX_TEXT) {
         Ok(bytes) => network_of(alloc, &bytes, calculus),
         Err(stop) => Err(stop_of_reading(stop)),
     }
@@ -98,7 +98,7 @@ fn table<F: Shelf>(alloc: Global, shelf: &mut F, name: &str) -> Result<Calculus,
     ensures read_fault { result ≡ Err Stop.ReadFault
         → Rose (F.faults shelf.old) (F.faults shelf.new) }
     ensures too_long { result ≡ Err Stop.TooLong
-        → RoseAbove (F.given shelf.old) (F.given shelf.new) SOURCE_LIMIT }
+        → RoseAbove (F.given shelf.old) (F.given shelf.new) MAX_TEXT }
     ensures faults_are_told { (result ≡ Err Stop.ReadFault)
         ⊎ (F.faults shelf.new ≡ F.faults shelf.old) }
     ensures faults_never_fall { F.faults shelf.old ≤ F.faults shelf.new }
@@ -106,7 +106,7 @@ fn table<F: Shelf>(alloc: Global, shelf: &mut F, name: &str) -> Result<Calculus,
     ensures absent_openings_stay { HasDocument (F.documents shelf.old) name.now (λ _. ⊤)
         → F.absent_openings shelf.new ≡ F.absent_openings shelf.old }
 {
-    match fetch(alloc, shelf, name, SOURCE_LIMIT) {
+    match fetch(alloc, shelf, name, MAX_TEXT) {
         Ok(bytes) => table_of(alloc, &bytes),
         Err(stop) => Err(stop_of_reading(stop)),
     }
@@ -114,7 +114,7 @@ fn table<F: Shelf>(alloc: Global, shelf: &mut F, name: &str) -> Result<Calculus,
 
 /// The calculus of a table file.
 fn table_of(alloc: Global, bytes: &[u8]) -> Result<Calculus, Stop>
-    requires { length bytes.now ≤ SOURCE_LIMIT }
+    requires { length bytes.now ≤ MAX_TEXT }
     ensures value { IfOk result (λ c. TableOf bytes.now (Ok c)) }
     ensures cause { IfErr result (HasCause (TableOf bytes.now)) }
     ensures refusal { IfErr result IsRefusalOrMemory }
@@ -127,7 +127,7 @@ fn table_of(alloc: Global, bytes: &[u8]) -> Result<Calculus, Stop>
 
 /// The network of a network file over a calculus.
 fn network_of(alloc: Global, bytes: &[u8], calculus: &Calculus) -> Result<Net, Stop>
-    requires { length bytes.now ≤ SOURCE_LIMIT }
+    requires { length bytes.now ≤ MAX_TEXT }
     ensures value { IfOk result (λ net. NetworkOf calculus.now bytes.now (Ok net)) }
     ensures network { IfOk result (λ net.
         IsNetwork calculus.now.algebra net.nodes net.words) }

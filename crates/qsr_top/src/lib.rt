@@ -15,5 +15,3 @@ pub use laws::output_is_one;
 pub use running::run;
 pub use statuses::{Place, Status};
 
-/// The most bytes that a source may have.
-pub const SOURCE_LIMIT: usize = 16_777_216;

@@ -13,7 +13,7 @@ ghost use Rattle.qsr_top.specs.Spoken.{IsSpoken};
 ghost use Rattle.qsr_top.specs.SinkAfter.{LeavesInSink, LeavesByStatus, IsWritten};
 ghost use Rattle.qsr_top.specs.Told.{WhereTold, SourceWaits, AbsentStays, names_document};
 
-use crate::SOURCE_LIMIT;
+use qsr_lex::MAX_TEXT;
 use crate::answers::{Answer, refused, usage};
 use crate::closing::close_answer;
 use crate::statuses::Status;
@@ -54,9 +54,9 @@ pub fn run<F: Shelf, S: Source, W: Sink, G: Gate + Sync>(
     ensures write_faults_are_told { (result ≡ Status.WriteFault)
         ⊎ (W.faults sink.new ≡ W.faults sink.old) }
     ensures too_long { result ≡ Status.TooLong
-        → RoseAbove (F.given shelf.old) (F.given shelf.new) SOURCE_LIMIT
-        ⊎ RoseAbove (S.given source.old) (S.given source.new) SOURCE_LIMIT }
-    ensures above { S.given source.old + SOURCE_LIMIT < S.given source.new
+        → RoseAbove (F.given shelf.old) (F.given shelf.new) MAX_TEXT
+        ⊎ RoseAbove (S.given source.old) (S.given source.new) MAX_TEXT }
+    ensures above { S.given source.old + MAX_TEXT < S.given source.new
         → IsTooLongOrMemory result }
 
     // What stays, and what is read.
@@ -104,9 +104,9 @@ fn answer<F: Shelf, S: Source>(
         → Rose (F.faults shelf.old) (F.faults shelf.new)
         ⊎ Rose (S.faults source.old) (S.faults source.new) }
     ensures too_long { result ≡ Err ReadStop.TooLong
-        → RoseAbove (F.given shelf.old) (F.given shelf.new) SOURCE_LIMIT
-        ⊎ RoseAbove (S.given source.old) (S.given source.new) SOURCE_LIMIT }
-    ensures above { S.given source.old + SOURCE_LIMIT < S.given source.new → IsTooLongStop result }
+        → RoseAbove (F.given shelf.old) (F.given shelf.new) MAX_TEXT
+        ⊎ RoseAbove (S.given source.old) (S.given source.new) MAX_TEXT }
+    ensures above { S.given source.old + MAX_TEXT < S.given source.new → IsTooLongStop result }
     ensures faults_are_told { (result ≡ Err ReadStop.ReadFault)
         ⊎ ((F.faults shelf.new ≡ F.faults shelf.old) × (S.faults source.new ≡ S.faults source.old)) }
 

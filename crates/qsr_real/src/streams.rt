@@ -1,9 +1,9 @@
-use qsr_outside::{Failed, Shelf, Sink, Source};
+use qsr_outside::{Failed, Sink, Source};
 use std::io::{Read, Stdin, Stdout, Write};
 
 /// Standard input. It tells nothing of its bytes.
 #[derive(Debug, Drop)]
-pub(crate) struct StdSource {
+pub struct StdSource {
     input: Stdin,
     given: u64,
     faults: u64,
@@ -11,19 +11,14 @@ pub(crate) struct StdSource {
 
 /// Standard output. It tells nothing of its bytes.
 #[derive(Debug, Drop)]
-pub(crate) struct StdSink {
+pub struct StdSink {
     output: Stdout,
     faults: u64,
 }
 
-/// A shelf without documents, on which each opening fails.
-#[derive(Debug, Drop)]
-pub(crate) struct NoShelf {
-    faults: u64,
-}
-
 impl StdSource {
-    pub(crate) fn new(input: Stdin) -> StdSource {
+    /// Standard input, of which no byte was read yet.
+    pub fn new(input: Stdin) -> StdSource {
         StdSource {
             input,
             given: 0,
@@ -33,14 +28,9 @@ impl StdSource {
 }
 
 impl StdSink {
-    pub(crate) fn new(output: Stdout) -> StdSink {
+    /// Standard output, to which no byte was written yet.
+    pub fn new(output: Stdout) -> StdSink {
         StdSink { output, faults: 0 }
-    }
-}
-
-impl NoShelf {
-    pub(crate) fn new() -> NoShelf {
-        NoShelf { faults: 0 }
     }
 }
 
@@ -86,30 +76,5 @@ impl Sink for StdSink {
                 Err(Failed)
             }
         }
-    }
-}
-
-impl Source for NoShelf {
-    ghost use Rattle.std.specs.Prelude.{None};
-
-    ghost documents = { λ _. None };
-
-    ghost absent_openings = { λ _. 0 };
-
-    ghost left = { λ _. None };
-
-    ghost given = { λ _. 0 };
-
-    ghost faults = { λ s. s.faults };
-
-    fn read(&mut self, _buf: &mut [u8]) -> Result<usize, Failed> {
-        Ok(0)
-    }
-}
-
-impl Shelf for NoShelf {
-    fn open(&mut self, _name: &str) -> Result<(), Failed> {
-        self.faults = self.faults.saturating_add(1);
-        Err(Failed)
     }
 }
