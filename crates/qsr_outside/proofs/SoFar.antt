@@ -1,5 +1,5 @@
 -- What a loop over reads or writes has done so far.
-use Rattle.std.proofs.Common.{◌≡◌, ℕ, ◌+◌, ◌-◌, ◌<◌, ◌≤◌, List, [], ◌++◌, Option, None, Some, IfSome, IsSomeAnd, length, take, drop, subst, sym, ap, ◌∙◌, arith, take-add, length-append, length-take-le}
+use Rattle.std.proofs.Common.{◌≡◌, ℕ, ◌+◌, ◌-◌, ◌<◌, ◌≤◌, List, [], ◌++◌, Option, None, Some, IfSome, IsSomeAnd, length, take, drop, refl, subst, sym, ap, ◌∙◌, arith, take-add, length-append, length-take-le}
 use Rattle.std.specs.Io.KnownBytes.{Appends, Consumes}
 use Rattle.std.proofs.KnownBytes.{Appends-trans, Consumes-trans, Consumes-nil}
 use Rattle.std.proofs.lemmas.List.{take_rest}
@@ -9,15 +9,15 @@ use Rattle.qsr_outside.specs.Counts.{RoseBy}
 pub record WroteSoFar (old new : Option (List ℕ)) (old_faults new_faults : ℕ) (bytes : List ℕ) (written : ℕ) : Type 0 where
   pub within : written ≤ length bytes
   pub appended : Appends old new (take written bytes)
-  pub faults : old_faults ≤ new_faults
+  pub faults : new_faults ≡ old_faults
 
 -- a write that took n of the bytes that were to be written
 pub wrote_more : (a b c : Option (List ℕ)) (f g h : ℕ) (bytes : List ℕ) (w n : ℕ)
-    → WroteSoFar a b f g bytes w → w + n ≤ length bytes → Appends b c (take n (take (length bytes - w) (drop w bytes))) → g ≤ h → WroteSoFar a c f h bytes (w + n)
+    → WroteSoFar a b f g bytes w → w + n ≤ length bytes → Appends b c (take n (take (length bytes - w) (drop w bytes))) → h ≡ g → WroteSoFar a c f h bytes (w + n)
 wrote_more a b c f g h bytes w n before fits more faults = record {
   within = fits;
   appended = subst (Appends a c) (sym (take-add w n bytes)) (Appends-trans a b c _ _ before.appended (rw take_rest at more));
-  faults = omega (arith, before.faults);
+  faults = faults ∙ before.faults;
 }
 
 -- `bytes` were read
@@ -25,7 +25,7 @@ pub record ReadSoFar (old new : Option (List ℕ)) (old_given new_given old_faul
   pub within : length bytes ≤ limit
   pub consumed : Consumes old new bytes
   pub counted : RoseBy old_given new_given (length bytes)
-  pub faults : old_faults ≤ new_faults
+  pub faults : new_faults ≡ old_faults
 
 -- what is consumed is no longer than what was left
 left_is_longer : (a b : Option (List ℕ)) (bytes : List ℕ) (limit : ℕ) → Consumes a b bytes → limit < length bytes → IfSome a (λ xs. limit < length xs)
@@ -52,7 +52,7 @@ module _ (a b c : Option (List ℕ)) (g0 g1 f0 f1 limit : ℕ) (bytes buffer : L
   pub read_too_much_untold : limit - length bytes < n → IsSomeAnd a (λ xs. length xs ≤ limit) → ⊥
   read_too_much_untold above = told_is_not_longer a limit (read_too_much above)
 
-  pub read_more : (g2 f2 : ℕ) (new : List ℕ) → RoseBy g1 g2 n → f1 ≤ f2 → new ≡ bytes ++ take n buffer → n ≤ limit - length bytes
+  pub read_more : (g2 f2 : ℕ) (new : List ℕ) → RoseBy g1 g2 n → f2 ≡ f1 → new ≡ bytes ++ take n buffer → n ≤ limit - length bytes
       → ReadSoFar a c g0 g2 f0 f2 limit new
   read_more g2 f2 new counted faults is fits =
       let long : length new ≡ length bytes + n = ap length is ∙ length-joined in
@@ -61,7 +61,7 @@ module _ (a b c : Option (List ℕ)) (g0 g1 f0 f1 limit : ℕ) (bytes buffer : L
         within = omega arith;
         consumed = subst (Consumes a c) (sym is) (Consumes-trans a b c _ _ before.consumed consumed);
         counted = record { never_fell = omega (arith, before.counted, counted); at_most = omega (arith, before.counted, counted); at_least = omega (arith, before.counted, counted) };
-        faults = omega (arith, before.faults);
+        faults = faults ∙ before.faults;
       }
 
 -- nothing was read yet
@@ -72,5 +72,5 @@ read_none a given faults limit bytes is =
       within = omega arith;
       consumed = subst (Consumes a a) (sym is) (Consumes-nil a);
       counted = record { never_fell = omega arith; at_most = omega arith; at_least = omega arith };
-      faults = omega arith;
+      faults = refl;
     }

@@ -30,6 +30,6 @@ pub record IsPlace (documents : List Document) (index at : ℕ) : Type 0 where
   pub within : at ≤ length (bytes_of (slice_get documents index))
 
 -- the open document, if there is one, is one of those stored
-abbrev pub IsWithin : List Document → Option Opened → Type 0
-IsWithin documents None = Unit {0}
-IsWithin documents (Some opened) = IsPlace documents opened.index opened.at
+abbrev pub IsOpenIn : List Document → Option Opened → Type 0
+IsOpenIn documents None = Unit {0}
+IsOpenIn documents (Some opened) = IsPlace documents opened.index opened.at

@@ -3,8 +3,8 @@ ghost use Rattle.std.specs.Io.KnownBytes.{Consumes};
 ghost use Rattle.qsr_outside.specs.Counts.{count_after, Rose, RoseBy};
 ghost use Rattle.qsr_outside.specs.InMemory.{after_call, after_failed_call, no_calls};
 
-use crate::answers::{Failed, Memory};
 use crate::calls::Calls;
+use crate::failures::{Failed, Memory};
 use crate::reading::Source;
 use std::alloc::Global;
 use std::marker::Model;

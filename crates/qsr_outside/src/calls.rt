@@ -2,7 +2,7 @@ ghost use Rattle.std.specs.Prelude.{◌≡◌, ◌↔◌, ◌≤◌, Contains, I
 ghost use Rattle.qsr_outside.specs.Counts.{count_after};
 ghost use Rattle.qsr_outside.specs.InMemory.{no_calls};
 
-use crate::answers::Memory;
+use crate::failures::Memory;
 use std::alloc::Global;
 use std::marker::Model;
 
@@ -42,7 +42,7 @@ impl Calls {
         self.faults
     }
 
-    /// Counts one more call, and answers whether it is to fail.
+    /// Counts one more call, and returns whether it is to fail.
     pub fn begin(&mut self) -> bool
         ensures fails { IsTrue result ↔ Contains self.old.failing self.old.made }
         ensures counts { self.new ≡ record self.old { made = count_after self.old.made 1 } }

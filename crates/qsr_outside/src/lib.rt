@@ -5,10 +5,11 @@
 //! real streams in tests.
 #![tactic(auto)]
 
-mod answers;
 mod bytes_sink;
 mod bytes_source;
 mod calls;
+mod failures;
+mod fetching;
 mod gates;
 mod map_shelf;
 mod reading;
@@ -17,9 +18,10 @@ mod shelves;
 mod tests;
 mod writing;
 
-pub use answers::{Failed, Memory};
 pub use bytes_sink::BytesSink;
 pub use bytes_source::BytesSource;
+pub use failures::{Failed, Memory};
+pub use fetching::fetch;
 pub use gates::{Gate, NoGate};
 pub use map_shelf::MapShelf;
 pub use reading::{ReadStop, Source, read_all};

@@ -5,20 +5,21 @@ ghost use Rattle.qsr_outside.specs.Counts.{count_after, Rose, RoseBy};
 ghost use Rattle.qsr_outside.specs.Documents.{absent_openings_after, document, CountsOpening};
 ghost use Rattle.qsr_outside.specs.InMemory.{after_call, after_failed_call, no_calls};
 
-use crate::answers::{Failed, Memory};
 use crate::calls::Calls;
+use crate::failures::{Failed, Memory};
 use crate::reading::Source;
 use crate::shelves::Shelf;
 use std::alloc::Global;
 use std::marker::Model;
 
+/// A document and its name.
 #[derive(Drop)]
 struct Document {
     name: Vec<u8>,
     bytes: Vec<u8>,
 }
 
-// Which of the stored documents is open, and how much of it was given.
+/// Which of the stored documents is open, and how much of it was given.
 #[derive(Clone, Copy)]
 struct Opened {
     index: usize,
@@ -43,7 +44,7 @@ impl Model for MapShelf {
 
     ghost coded = { map_shelf_code };
 
-    ghost use Rattle.qsr_outside.specs.StoredDocuments.{documents_of, left_of, IsWithin};
+    ghost use Rattle.qsr_outside.specs.StoredDocuments.{documents_of, left_of, IsOpenIn};
 
     ghost view = { λ s. record {
       documents = documents_of s.documents.items;
@@ -53,7 +54,7 @@ impl Model for MapShelf {
       calls = s.calls;
     } };
 
-    ghost invariant = { λ s. IsWithin s.documents.items s.opened };
+    ghost invariant = { λ s. IsOpenIn s.documents.items s.opened };
 }
 
 impl MapShelf {
@@ -129,7 +130,7 @@ impl MapShelf {
         self.calls.faults()
     }
 
-    // Where the newest document of this name stands.
+    /// The place of the newest document of this name.
     fn find(documents: &[Document], name: &[u8]) -> Option<usize>
         ensures place { result ≡ position (is_named name.now) documents.now }
         ensures found { IfSome result (λ k. document (documents_of documents.now) name.now
@@ -141,7 +142,7 @@ impl MapShelf {
             .position(|document| name == document.name.as_slice())
     }
 
-    // Gives `n` of the bytes that are left.
+    /// Gives `n` of the bytes that are left.
     fn advance(&mut self, n: usize)
         requires { n ≤ length self.old.left }
         ensures { self.new ≡ record self.old {
@@ -155,7 +156,7 @@ impl MapShelf {
         }
     }
 
-    // Closes the document that is open, since a call failed.
+    /// Closes the document that is open, since a call failed.
     fn close(&mut self)
         ensures closed { self.new ≡ record self.old {
           left = [];

@@ -1,10 +1,10 @@
-ghost use Rattle.std.specs.Prelude.{◌≡◌, ◌↔◌, ◌+◌, ◌^◌, ◌<◌, ◌≤◌, ℕ, List, [], Option, length, take, vec_len, IfSome, IsSomeAnd, IfOk, OnErr, OnOk};
+ghost use Rattle.std.specs.Prelude.{◌≡◌, ◌↔◌, ◌⊎◌, ◌+◌, ◌^◌, ◌<◌, ◌≤◌, ℕ, List, [], Option, length, take, vec_len, IfSome, IsSomeAnd, IfOk, OnErr, OnOk};
 ghost use Rattle.std.specs.Io.KnownBytes.{Consumes, IsAtEnd, Keeps};
 ghost use Rattle.qsr_outside.specs.Counts.{Rose, RoseAbove, RoseBy};
 ghost use Rattle.qsr_outside.specs.Documents.{Documents};
 ghost use Rattle.qsr_outside.specs.Reading.{IsOkOrMemory, IsTooLongOrMemory};
 
-use crate::answers::Failed;
+use crate::failures::Failed;
 use std::alloc::Global;
 
 /// Where bytes come from.
@@ -27,11 +27,12 @@ pub trait Source {
     // How many calls failed so far.
     ghost faults: { Self → ℕ };
 
-    /// Gives the next bytes, at the front of `buf`, and answers how many. `Ok(0)` is the end of input.
+    /// Gives the next bytes, at the front of `buf`, and returns how many. `Ok(0)` is the end of input.
     ///
     /// # Errors
     ///
-    /// `Failed` where the source's count of faults rose, and then no byte was given.
+    /// `Failed` where the source's count of faults rose, and then no byte was given. Where a call
+    /// succeeds the count stays, so a failed read can't be hidden by a later one.
     fn read(&mut self, buf: &mut [u8]) -> Result<usize, Failed>
         requires { 0 < length buf.old }
         ensures within { IfOk result (λ n. n ≤ length buf.new) }
@@ -44,6 +45,7 @@ pub trait Source {
         ensures failed_gives_none { OnErr result (Keeps (left self.old) (left self.new)) }
         ensures failed_counts_none { OnErr result (given self.new ≡ given self.old) }
         ensures failed_is_counted { OnErr result (Rose (faults self.old) (faults self.new)) }
+        ensures ok_is_no_fault { OnOk result (faults self.new ≡ faults self.old) }
         ensures faults_never_fall { faults self.old ≤ faults self.new }
         ensures documents_stay { documents self.new ≡ documents self.old }
         ensures absent_openings_stay { absent_openings self.new ≡ absent_openings self.old };
@@ -56,13 +58,14 @@ pub enum ReadStop {
     ReadFault,
     /// More than the limit was given.
     TooLong,
-    /// Memory was wanted and not given.
+    /// Memory ran out.
     Memory,
 }
 
+/// How many bytes are asked for at once.
 const BUFFER_LEN: usize = 8192;
 
-/// Reads the source until the end of input, and answers the bytes that it gave, at most `limit` of
+/// Reads the source until the end of input, and returns the bytes that it gave, at most `limit` of
 /// them.
 ///
 /// # Errors
@@ -94,6 +97,8 @@ pub fn read_all<S: Source>(alloc: Global, source: &mut S, limit: usize) -> Resul
     ensures completes { IsSomeAnd (S.left source.old) (λ bytes. length bytes ≤ limit)
         → ¬ Rose (S.faults source.old) (S.faults source.new) → IsOkOrMemory result }
 
+    ensures faults_are_told { (result ≡ Err ReadStop.ReadFault)
+        ⊎ (S.faults source.new ≡ S.faults source.old) }
     ensures faults_never_fall { S.faults source.old ≤ S.faults source.new }
     ensures documents_stay { S.documents source.new ≡ S.documents source.old }
     ensures absent_openings_stay { S.absent_openings source.new ≡ S.absent_openings source.old }

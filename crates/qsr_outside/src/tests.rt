@@ -22,7 +22,7 @@ struct ReadCase {
 }
 
 #[test]
-fn read_all_gives_all_that_the_source_has(rt: HostRuntime) -> Result<(), Fail> {
+fn read_all_returns_all_that_the_source_has_and_reads_no_more(rt: HostRuntime) -> Result<(), Fail> {
     let cases = [
         ReadCase {
             bytes: b"",
@@ -43,7 +43,7 @@ fn read_all_gives_all_that_the_source_has(rt: HostRuntime) -> Result<(), Fail> {
         ReadCase {
             bytes: b"abcde",
             piece: 100,
-            failing: &[9],
+            failing: &[2],
             limit: 5,
             stop: None,
             given: 5,
@@ -53,15 +53,15 @@ fn read_all_gives_all_that_the_source_has(rt: HostRuntime) -> Result<(), Fail> {
 }
 
 #[test]
-fn read_all_stops_above_the_limit(rt: HostRuntime) -> Result<(), Fail> {
+fn read_all_stops_above_the_limit_and_reads_no_more(rt: HostRuntime) -> Result<(), Fail> {
     let cases = [
         ReadCase {
-            bytes: b"abcde",
+            bytes: b"abcdefgh",
             piece: 2,
-            failing: &[],
+            failing: &[3],
             limit: 4,
             stop: Some(ReadStop::TooLong),
-            given: 5,
+            given: 6,
         },
         ReadCase {
             bytes: b"abcde",
@@ -279,7 +279,7 @@ fn a_shelf_opens_the_newest_document_of_a_name(rt: HostRuntime) -> Result<(), Fa
     Ok(())
 }
 
-// Copies a source to a sink, and answers whether the sink took all.
+/// Copies a source to a sink, and returns whether the sink took all.
 fn copy<S: Source, W: Sink>(alloc: Global, source: &mut S, sink: &mut W) -> Result<bool, ReadStop>
     ensures copies { IfOk result (λ is_copied. IsTrue is_copied
         → IfSome (S.left source.old) (λ bytes. Appends (W.held sink.old) (W.held sink.new) bytes)) }

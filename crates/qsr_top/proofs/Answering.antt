@@ -4,7 +4,7 @@ use Rattle.std.specs.Prelude.{IfSome}
 use Rattle.std.specs.Io.KnownBytes.{Appends}
 use Rattle.qsr_outside.specs.Writing.{AppendsPart}
 use Rattle.qsr_top.specs.Output.{Output}
-use Rattle.qsr_top.specs.Answers.{Answers, IsWritten}
+use Rattle.qsr_top.specs.SinkAfter.{LeavesInSink, IsWritten}
 use Rattle.qsr_top.specs.declared.statuses.Status.{Status}
 use Rattle.qsr_top.specs.declared.statuses.Status.TheVariants.{Done, No, Usage, Refused, ReadFault, WriteFault, Memory, Budget, NotAccepted, TooLong}
 
@@ -17,23 +17,27 @@ pub IfSome-weaker : {X : Type 0} (o : Option X) (P Q : X → Type 0) → ((x : X
 IfSome-weaker None P Q f h = tt
 IfSome-weaker (Some x) P Q f h = f x h
 
--- a whole text, with the status of an answer
-whole_answer : (words : List (List ℕ)) (bytes : List ℕ) (old new : Option (List ℕ)) (text : List ℕ) (status : Status) → IsWritten status → Appends old new text → Output words bytes text status → Answers words bytes old new status
+-- an answer is written with one of four statuses
+whole_answer : (words : List (List ℕ)) (bytes : List ℕ) (old new : Option (List ℕ)) (text : List ℕ) (status : Status) → IsWritten words status text → Appends old new text → Output words bytes text status → LeavesInSink words bytes old new status
 whole_answer words bytes old new text Done w a o = record { text = text; appended = a; output = o }
 whole_answer words bytes old new text No w a o = record { text = text; appended = a; output = o }
 whole_answer words bytes old new text Usage w a o = record { text = text; appended = a; output = o }
 whole_answer words bytes old new text (Refused number place) w a o = record { text = text; appended = a; output = o }
-whole_answer words bytes old new text ReadFault w a o = absurd w
-whole_answer words bytes old new text WriteFault w a o = absurd w
-whole_answer words bytes old new text Memory w a o = absurd w
-whole_answer words bytes old new text Budget w a o = absurd w
-whole_answer words bytes old new text (NotAccepted number place) w a o = absurd w
-whole_answer words bytes old new text TooLong w a o = absurd w
+whole_answer words bytes old new text TooLong w a o = record { text = text; appended = a; output = o }
+whole_answer words bytes old new text Budget w a o = record { text = text; appended = a; output = o }
+whole_answer words bytes old new text (NotAccepted number place) w a o = record { text = text; appended = a; output = o }
+whole_answer words bytes old new text ReadFault w a o = absurd (elim w.answer [ inl h ↦ h | inr e ↦ cc ])
+whole_answer words bytes old new text WriteFault w a o = absurd (elim w.answer [ inl h ↦ h | inr e ↦ cc ])
+whole_answer words bytes old new text Memory w a o = absurd (elim w.answer [ inl h ↦ h | inr e ↦ cc ])
 
--- what writing an answer leaves
-pub written_answer : (words : List (List ℕ)) (bytes : List ℕ) (old new : Option (List ℕ)) (text : List ℕ) (status result : Status) (R : Type 0) → IsWritten status →
-    ((result ≡ status) × Appends old new text) ⊎ ((result ≡ WriteFault) × AppendsPart old new text × R) → Output words bytes text status → Answers words bytes old new result
-written_answer words bytes old new text status result R w h o = elim h [
-  | inl all ↦ subst (Answers words bytes old new) (sym all.0) (whole_answer words bytes old new text status w all.1 o)
-  | inr part ↦ subst (Answers words bytes old new) (sym part.0) (record { text = text; status = status; appended = part.1; output = o })
+-- what writing an answer does: it is written whole, or the sink fails
+abbrev IsWriting : Option (List ℕ) → Option (List ℕ) → List ℕ → Status → Status → Type 0 → Type 0 → Type 0
+IsWriting old new text status result Same R = ((result ≡ status) × Appends old new text × Same) ⊎ ((result ≡ WriteFault) × AppendsPart old new text × R)
+
+-- what it leaves, over a source that tells its bytes
+pub written_answer : (words : List (List ℕ)) (bytes : List ℕ) (old new : Option (List ℕ)) (text : List ℕ) (status result : Status) (Same R : Type 0) → IsWritten words status text →
+    IsWriting old new text status result Same R → Output words bytes text status → LeavesInSink words bytes old new result
+written_answer words bytes old new text status result Same R w h o = elim h [
+  | inl all ↦ subst (LeavesInSink words bytes old new) (sym all.0) (whole_answer words bytes old new text status w all.1 o)
+  | inr part ↦ subst (LeavesInSink words bytes old new) (sym part.0) (record { text = text; status = status; appended = part.1; output = o })
 ]

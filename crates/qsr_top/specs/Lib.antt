@@ -1,8 +1,8 @@
 pub mod Code
-pub mod Reading
 pub mod Refusals
 pub mod Output
-pub mod Answers
+pub mod Ends
+pub mod SinkAfter
 pub use Rattle.network_words.specs.Network
 pub use Rattle.network_words.specs.Closure
 pub use Rattle.network_words.specs.Facts

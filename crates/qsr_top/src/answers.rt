@@ -1,6 +1,6 @@
-ghost use Rattle.std.specs.Prelude.{◌≡◌, codes, IfOk};
+ghost use Rattle.std.specs.Prelude.{◌≡◌, IfOk};
 ghost use Rattle.std.specs.String.{string_bytes};
-ghost use Rattle.qsr_top.specs.Output.{place_text, refusal_text};
+ghost use Rattle.qsr_top.specs.Output.{place_text, refusal_text, usage_text};
 
 use crate::statuses::{Place, Status};
 use std::alloc::{AllocError, Global};
@@ -15,7 +15,7 @@ pub(crate) struct Answer {
 /// The answer to words that are no command.
 pub(crate) fn usage(alloc: Global) -> Result<Answer, AllocError>
     ensures status { IfOk result (λ answer. answer.status ≡ Status.Usage) }
-    ensures text { IfOk result (λ answer. string_bytes answer.text ≡ codes "usage\n") }
+    ensures text { IfOk result (λ answer. string_bytes answer.text ≡ usage_text) }
 {
     let text = String::from_str(alloc, "usage\n")?;
     Ok(Answer {

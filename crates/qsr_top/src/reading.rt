@@ -1,6 +1,6 @@
 ghost use Rattle.std.specs.Prelude.{◌≡◌, ◌≤◌, length, IfOk, IfErr};
 ghost use Rattle.network_file.specs.NetworkFile.{IsFileOf};
-ghost use Rattle.qsr_top.specs.Refusals.{NamesFault, IsRefusalOf};
+ghost use Rattle.qsr_top.specs.Refusals.{IsRefusalFor, IsRefusalOf};
 
 use crate::statuses::Place;
 use calculus_table::Calculus;
@@ -13,10 +13,11 @@ use std::alloc::Global;
 pub(crate) enum Refusal {
     /// The bytes are refused, for the numbered reason at this place.
     Bytes { number: u32, place: Place },
-    /// Want of memory.
+    /// Memory ran out.
     Memory,
 }
 
+/// The refusal with this number, at a place of one number.
 fn bytes_refusal(number: u32, at: u32) -> Refusal
     ensures { result ≡ Refusal.Bytes number (record { count = 1; a = at; b = 0; c = 0 }) }
 {
@@ -28,7 +29,7 @@ fn bytes_refusal(number: u32, at: u32) -> Refusal
 
 /// The refusal that names a fault.
 fn refusal_of(fault: FileFault) -> Refusal
-    ensures { NamesFault fault result }
+    ensures { IsRefusalFor fault result }
 {
     match fault {
         FileFault::Nodes { line } => bytes_refusal(14, line),

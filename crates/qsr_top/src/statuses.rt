@@ -38,7 +38,7 @@ pub enum Status {
     ReadFault,
     /// The sink failed.
     WriteFault,
-    /// Want of memory.
+    /// Memory ran out.
     Memory,
     /// The search ended at its budget.
     Budget,

@@ -1,18 +1,13 @@
-use crate::{Place, SOURCE_LIMIT, Status, run};
-use qsr_outside::{BytesSink, BytesSource, MapShelf, NoGate};
+use crate::{Place, Status, run};
+use qsr_outside::{BytesSink, BytesSource, Gate, MapShelf, NoGate};
 use std::alloc::Global;
 use std::process::Abort;
+use std::sync::atomic::{AtomicU64, Ordering};
 use std::test::Fail;
-
-#[derive(Clone, Copy)]
-struct Row {
-    source: &'static [u8],
-    text: &'static str,
-    status: Status,
-}
 
 const CLOSE: &[&str] = &["close", "rcc8"];
 
+/// The words as owned strings.
 fn owned(alloc: Global, words: &[&str]) -> Result<Vec<String>, Fail> {
     let mut owned = Vec::new(alloc);
     for word in words {
@@ -21,114 +16,131 @@ fn owned(alloc: Global, words: &[&str]) -> Result<Vec<String>, Fail> {
     Ok(owned)
 }
 
-/// Runs over the forms in memory, whose numbered calls fail, and gives the status and what was written.
-fn ran(
+/// Runs over the forms in memory, whose numbered calls fail, and returns the status and what was written.
+fn ran<G: Gate + Sync>(
     alloc: Global,
     words: &[&str],
     source: &[u8],
     failing_reads: &[u32],
     failing_writes: &[u32],
+    gate: &G,
 ) -> Result<(Status, Vec<u8>), Fail> {
     let words = owned(alloc, words)?;
     let mut shelf = MapShelf::new(alloc, &[])?;
     let mut source = BytesSource::new(alloc, source, 4096, failing_reads)?;
     let mut sink = BytesSink::new(alloc, 5, failing_writes)?;
     sink.reserve(4096)?;
-    let status = run(alloc, &words, &mut shelf, &mut source, &mut sink, &NoGate);
+    let status = run(alloc, &words, &mut shelf, &mut source, &mut sink, gate);
     Ok((status, sink.bytes().to_vec(alloc)?))
 }
 
-fn refused_row(source: &'static [u8], text: &'static str, number: u32, line: u64) -> Row {
-    Row {
-        source,
-        text,
-        status: Status::Refused {
-            number,
-            place: Place::at(line),
-        },
+/// The status of a refusal at a place of one number.
+fn refused(number: u32, at: u64) -> Status {
+    Status::Refused {
+        number,
+        place: Place::at(at),
     }
 }
 
-fn expect_rows(rt: &(impl Abort + AllocGlobal), rows: &[Row]) -> Result<(), Fail> {
-    for row in rows {
-        let (status, text) = ran(rt.alloc(), CLOSE, row.source, &[], &[])?;
-        assert_eq!(rt; status, row.status, "on {:?}", row.source);
-        assert_eq!(rt; text.as_slice(), row.text.as_bytes(), "on {:?}", row.source);
+/// Each row: the bytes of the source, the text that is written, and how the run ends.
+fn expect_rows(
+    rt: &(impl Abort + AllocGlobal),
+    rows: &[(&[u8], &str, Status)],
+) -> Result<(), Fail> {
+    for (source, text, status) in rows {
+        let (ended, written) = ran(rt.alloc(), CLOSE, source, &[], &[], &NoGate)?;
+        assert_eq!(rt; ended, *status, "on {source:?}");
+        assert_eq!(rt; written.as_slice(), text.as_bytes(), "on {source:?}");
     }
     Ok(())
 }
 
 #[test]
 fn closing_writes_the_closure(rt: HostRuntime) -> Result<(), Fail> {
-    let rows = [
-        Row {
-            source: b"nodes 3\n0 1 ( TPP )\n1 2 ( NTPP )\n.\n",
-            text: "nodes 3\n0 1 ( TPP )\n0 2 ( NTPP )\n1 2 ( NTPP )\n.\n",
-            status: Status::Done,
-        },
-        Row {
-            source: b"nodes 3\n0 1 ( NTPP )\n1 2 ( NTPP )\n0 2 ( DC )\n.\n",
-            text: "nodes 3\n0 1 ( )\n0 2 ( )\n1 2 ( )\n.\n",
-            status: Status::No,
-        },
-        Row {
-            source: b"nodes 3\n0 1 ( EC )\n1 2 ( EC )\n.\n",
-            text: "nodes 3\n0 1 ( EC )\n0 2 ( DC EC PO TPP TPPi EQ )\n1 2 ( EC )\n.\n",
-            status: Status::Done,
-        },
-        Row {
-            source: b"nodes 1\n.\n",
-            text: "nodes 1\n.\n",
-            status: Status::Done,
-        },
-        Row {
-            source: b"nodes 2\n0 1 ( )\n.\n",
-            text: "nodes 2\n0 1 ( )\n.\n",
-            status: Status::No,
-        },
-        Row {
-            source: b"nodes 3\nnames ( a b c )\nc a ( TPP )\n.\n",
-            text: "nodes 3\nnames ( a b c )\n0 1 ( DC EC PO TPP NTPP TPPi NTPPi EQ )\n0 2 ( TPPi )\n1 2 ( DC EC PO TPP NTPP TPPi NTPPi EQ )\n.\n",
-            status: Status::Done,
-        },
-        Row {
-            source: b"nodes 3\r\n0 1 ( TPP )\r\n1 2 ( NTPP )\r\n.\r\n",
-            text: "nodes 3\n0 1 ( TPP )\n0 2 ( NTPP )\n1 2 ( NTPP )\n.\n",
-            status: Status::Done,
-        },
-        Row {
-            source: b"nodes 3\n0 1 ( TPP ) # \x80\n1 2 ( NTPP )\n.\n",
-            text: "nodes 3\n0 1 ( TPP )\n0 2 ( NTPP )\n1 2 ( NTPP )\n.\n",
-            status: Status::Done,
-        },
+    let rows: [(&[u8], &str, Status); 8] = [
+        (
+            b"nodes 3\n0 1 ( TPP )\n1 2 ( NTPP )\n.\n",
+            "nodes 3\n0 1 ( TPP )\n0 2 ( NTPP )\n1 2 ( NTPP )\n.\n",
+            Status::Done,
+        ),
+        (
+            b"nodes 3\n0 1 ( NTPP )\n1 2 ( NTPP )\n0 2 ( DC )\n.\n",
+            "nodes 3\n0 1 ( )\n0 2 ( )\n1 2 ( )\n.\n",
+            Status::No,
+        ),
+        (
+            b"nodes 3\n0 1 ( EC )\n1 2 ( EC )\n.\n",
+            "nodes 3\n0 1 ( EC )\n0 2 ( DC EC PO TPP TPPi EQ )\n1 2 ( EC )\n.\n",
+            Status::Done,
+        ),
+        (b"nodes 1\n.\n", "nodes 1\n.\n", Status::Done),
+        (
+            b"nodes 2\n0 1 ( )\n.\n",
+            "nodes 2\n0 1 ( )\n.\n",
+            Status::No,
+        ),
+        (
+            b"nodes 3\nnames ( a b c )\nc a ( TPP )\n.\n",
+            "nodes 3\nnames ( a b c )\n0 1 ( DC EC PO TPP NTPP TPPi NTPPi EQ )\n0 2 ( TPPi )\n1 2 ( DC EC PO TPP NTPP TPPi NTPPi EQ )\n.\n",
+            Status::Done,
+        ),
+        (
+            b"nodes 3\r\n0 1 ( TPP )\r\n1 2 ( NTPP )\r\n.\r\n",
+            "nodes 3\n0 1 ( TPP )\n0 2 ( NTPP )\n1 2 ( NTPP )\n.\n",
+            Status::Done,
+        ),
+        (
+            b"nodes 3\n0 1 ( TPP ) # \x80\n1 2 ( NTPP )\n.\n",
+            "nodes 3\n0 1 ( TPP )\n0 2 ( NTPP )\n1 2 ( NTPP )\n.\n",
+            Status::Done,
+        ),
     ];
     expect_rows(&rt, &rows)
 }
 
 #[test]
 fn faulty_sources_are_refused_with_number_and_place(rt: HostRuntime) -> Result<(), Fail> {
-    let rows = [
-        refused_row(b"", "refused 20 0\n", 20, 0),
-        refused_row(b"nodes 3\n1 1 ( EC )\n.\n", "refused 16 2\n", 16, 2),
-        refused_row(b"nodes 3\n0 1 ( EC )\n", "refused 20 2\n", 20, 2),
-        refused_row(b"nodes 3\n0 3 ( EC )\n.\n", "refused 15 2\n", 15, 2),
-        refused_row(b"nodes 3\n0 1 ( XX )\n.\n", "refused 19 2\n", 19, 2),
-        refused_row(b"nodes 129\n.\n", "refused 14 1\n", 14, 1),
-        refused_row(b"nodes 2\nnames ( a a )\n.\n", "refused 17 2\n", 17, 2),
-        refused_row(b"nodes 2\n0 1 EC\n.\n", "refused 18 2\n", 18, 2),
-        refused_row(
+    let rows: [(&[u8], &str, Status); 12] = [
+        (b"", "refused 20 0\n", refused(20, 0)),
+        (
+            b"nodes 3\n1 1 ( EC )\n.\n",
+            "refused 16 2\n",
+            refused(16, 2),
+        ),
+        (b"nodes 3\n0 1 ( EC )\n", "refused 20 2\n", refused(20, 2)),
+        (
+            b"nodes 3\n0 3 ( EC )\n.\n",
+            "refused 15 2\n",
+            refused(15, 2),
+        ),
+        (
+            b"nodes 3\n0 1 ( XX )\n.\n",
+            "refused 19 2\n",
+            refused(19, 2),
+        ),
+        (b"nodes 256\n", "refused 20 1\n", refused(20, 1)),
+        (b"nodes 257\n.\n", "refused 14 1\n", refused(14, 1)),
+        (
+            b"nodes 2\nnames ( a a )\n.\n",
+            "refused 17 2\n",
+            refused(17, 2),
+        ),
+        (b"nodes 2\n0 1 EC\n.\n", "refused 18 2\n", refused(18, 2)),
+        (
             b"nodes 3\n0 1 ( TPP )\x80\n1 2 ( NTPP )\n.\n",
             "refused 18 2\n",
-            18,
-            2,
+            refused(18, 2),
         ),
-        refused_row(
+        (
             b"nodes 2\nnames ( a b )\na c ( XX )\n.\n",
             "refused 19 3\n",
-            19,
-            3,
+            refused(19, 3),
         ),
-        refused_row(b"nodes 2\nnames ( a )\n.\n", "refused 18 2\n", 18, 2),
+        (
+            b"nodes 2\nnames ( a )\n.\n",
+            "refused 18 2\n",
+            refused(18, 2),
+        ),
     ];
     expect_rows(&rt, &rows)
 }
@@ -143,7 +155,7 @@ fn other_words_have_the_usage_line(rt: HostRuntime) -> Result<(), Fail> {
         &["--help"],
     ];
     for words in wrong.iter() {
-        let (status, text) = ran(rt.alloc(), words, b"nodes 1\n.\n", &[], &[])?;
+        let (status, text) = ran(rt.alloc(), words, b"nodes 1\n.\n", &[0], &[], &NoGate)?;
         assert_eq!(rt; status, Status::Usage);
         assert_eq!(rt; text.as_slice(), b"usage\n".as_slice());
     }
@@ -152,30 +164,65 @@ fn other_words_have_the_usage_line(rt: HostRuntime) -> Result<(), Fail> {
 
 #[test]
 fn failing_streams_stop_the_run(rt: HostRuntime) -> Result<(), Fail> {
-    let source = b"nodes 3\n0 1 ( TPP )\n1 2 ( NTPP )\n.\n";
-    let (status, text) = ran(rt.alloc(), CLOSE, source, &[0], &[])?;
-    assert_eq!(rt; status, Status::ReadFault);
-    assert_eq!(rt; text.len(), 0);
-    let (status, text) = ran(rt.alloc(), CLOSE, source, &[], &[1])?;
-    assert_eq!(rt; status, Status::WriteFault);
-    assert_eq!(rt; text.as_slice(), b"nodes".as_slice());
+    // failing reads, failing writes, how the run ends, what is written
+    let rows: [(&[u32], &[u32], Status, &str); 5] = [
+        (&[0], &[], Status::ReadFault, ""),
+        (&[1], &[], Status::ReadFault, ""),
+        // nothing is read after the end of the input
+        (&[2], &[], Status::Done, "nodes 1\n.\n"),
+        // nothing is written after a failed write
+        (&[], &[0], Status::WriteFault, ""),
+        (&[], &[1], Status::WriteFault, "nodes"),
+    ];
+    for (reads, writes, status, text) in rows.iter() {
+        let (ended, written) = ran(rt.alloc(), CLOSE, b"nodes 1\n.\n", reads, writes, &NoGate)?;
+        assert_eq!(rt; ended, *status, "reads {reads:?}, writes {writes:?}");
+        assert_eq!(rt;
+            written.as_slice(),
+            text.as_bytes(),
+            "reads {reads:?}, writes {writes:?}"
+        );
+    }
+    Ok(())
+}
+
+/// A gate that counts how often it is passed.
+#[derive(Drop)]
+struct CountingGate {
+    passes: AtomicU64,
+}
+
+impl Gate for CountingGate {
+    fn pass(&self, _point: u32) {
+        self.passes.fetch_add(1, Ordering::SeqCst);
+    }
+}
+
+#[test]
+fn the_gate_is_not_passed_where_no_worker_runs(rt: HostRuntime) -> Result<(), Fail> {
+    let gate = CountingGate {
+        passes: AtomicU64::new(0),
+    };
+    let rows: [(&[&str], &[u8], Status); 2] = [
+        (CLOSE, b"", refused(20, 0)),
+        (&["help"], b"nodes 1\n.\n", Status::Usage),
+    ];
+    for (words, source, status) in rows.iter() {
+        let (ended, _) = ran(rt.alloc(), words, source, &[], &[], &gate)?;
+        assert_eq!(rt; ended, *status);
+        assert_eq!(rt; gate.passes.load(Ordering::SeqCst), 0);
+    }
     Ok(())
 }
 
 #[test]
 fn sources_past_the_limit_are_too_long(rt: HostRuntime) -> Result<(), Fail> {
-    let mut source = vec![in rt.alloc(); b'\n'; SOURCE_LIMIT]?;
-    let (status, text) = ran(rt.alloc(), CLOSE, &source, &[], &[])?;
-    assert_eq!(rt;
-        status,
-        Status::Refused {
-            number: 20,
-            place: Place::at(16_777_216)
-        }
-    );
+    let mut source = vec![in rt.alloc(); b'\n'; 16_777_216]?;
+    let (status, text) = ran(rt.alloc(), CLOSE, &source, &[], &[], &NoGate)?;
+    assert_eq!(rt; status, refused(20, 16_777_216));
     assert_eq!(rt; text.as_slice(), b"refused 20 16777216\n".as_slice());
     source.push(b'\n')?;
-    let (status, text) = ran(rt.alloc(), CLOSE, &source, &[], &[])?;
+    let (status, text) = ran(rt.alloc(), CLOSE, &source, &[], &[], &NoGate)?;
     assert_eq!(rt; status, Status::TooLong);
     assert_eq!(rt; text.len(), 0);
     Ok(())
@@ -183,17 +230,19 @@ fn sources_past_the_limit_are_too_long(rt: HostRuntime) -> Result<(), Fail> {
 
 #[test]
 fn codes_are_those_of_the_statuses(rt: HostRuntime) {
-    let place = Place::at(0);
     let statuses = [
         Status::Done,
         Status::No,
         Status::Usage,
-        Status::Refused { number: 18, place },
+        refused(18, 0),
         Status::ReadFault,
         Status::WriteFault,
         Status::Memory,
         Status::Budget,
-        Status::NotAccepted { number: 28, place },
+        Status::NotAccepted {
+            number: 28,
+            place: Place::at(0),
+        },
         Status::TooLong,
     ];
     for (code, status) in statuses.iter().enumerate() {

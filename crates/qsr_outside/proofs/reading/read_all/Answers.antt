@@ -23,7 +23,7 @@ pub loop-n-preserved : goal.loop-n-preserved
 loop-n-preserved g c = record {
   buffer = c.loop-n.invariant.buffer;
   read = read_more _ _ _ _ _ _ _ _ _ _ _ c.loop-n.invariant.read c.in-Ok.ensures.gives c.in-Ok.ensures.within _ _ _
-      c.in-Ok.ensures.counts c.read.ensures.faults_never_fall (grind (arith, common_steps)) (omega arith);
+      c.in-Ok.ensures.counts c.in-Ok.ensures.ok_is_no_fault (grind (arith, common_steps)) (omega arith);
   documents = search rules;
   absent_openings = search rules;
 }

@@ -6,4 +6,4 @@ pub loop-written-preserved : goal.loop-written-preserved
 loop-written-preserved g c =
     wrote_more _ _ _ _ _ _ _ _ _ c.loop-written.invariant
     (omega (arith, simp (length-drop, length-take) at c.in-Ok.ensures.within))
-    c.in-Ok.ensures.takes c.write.ensures.faults_never_fall
+    c.in-Ok.ensures.takes c.in-Ok.ensures.ok_is_no_fault

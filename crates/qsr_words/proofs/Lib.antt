@@ -1,0 +1,2 @@
+pub mod CloseWords
+pub mod CommandWords
