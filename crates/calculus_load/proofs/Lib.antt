@@ -2,8 +2,7 @@ pub mod Texts
 pub mod NamesRead
 pub mod Shapes
 pub mod Faults
-pub mod Forms
-pub mod LineCounts
+pub mod Colons
 pub mod PrintedTable
 pub mod NamesAgain
 pub mod ReadAgain

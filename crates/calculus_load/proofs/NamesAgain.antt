@@ -11,7 +11,7 @@ use Rattle.calculus_table.specs.declared.TheConstants.{MAX_BASES}
 use Rattle.calculus_table.specs.Names.{place_of}
 use Rattle.calculus_table.proofs.PlacesOfNames.{place_of-found}
 use Rattle.calculus_load.specs.Names.{repeat_after, unless_repeated, allowed_names}
-use Rattle.calculus_load.specs.TableText.{name_at}
+use Rattle.calculus_load.specs.TableText.{base_name}
 use Rattle.calculus_load.specs.declared.fault.LoadFault.TheVariants.{TooMany}
 use Rattle.std.proofs.Common.{Ok, Err}
 use Rattle.calculus_load.proofs.NamesRead.{repeat_after-miss}
@@ -25,7 +25,7 @@ pub record HasNames (c : NamedAlgebra) : Type 0 where
 pub size-is : (c : NamedAlgebra) → HasNames c → length c.names ≡ c.algebra.size
 size-is c h = h.lawful.one_each
 
-name-is : (c : NamedAlgebra) (r : ℕ) → name_at c r ≡ get_or c.names r []
+name-is : (c : NamedAlgebra) (r : ℕ) → base_name c r ≡ get_or c.names r []
 name-is c r = unwrap_or-slice_get c.names r []
 
 each-name : (names : List (List ℕ)) (r : ℕ) → list_all is_name names ≡ true → r < length names → is_name (get_or names r []) ≡ true
@@ -33,17 +33,17 @@ each-name [] r h below = absurd (omega arith)
 each-name (x ∷ xs) zero h below = (and_parts (is_name x) (list_all is_name xs) h).0
 each-name (x ∷ xs) (suc r) h below = each-name xs r (and_parts (is_name x) (list_all is_name xs) h).1 (omega arith)
 
-pub name_at-is_name : (c : NamedAlgebra) (r : ℕ) → HasNames c → r < c.algebra.size → is_name (name_at c r) ≡ true
-name_at-is_name c r h below = ap is_name (name-is c r) ∙ each-name c.names r h.names (omega (arith, size-is c h))
+pub base_name-is_name : (c : NamedAlgebra) (r : ℕ) → HasNames c → r < c.algebra.size → is_name (base_name c r) ≡ true
+base_name-is_name c r h below = ap is_name (name-is c r) ∙ each-name c.names r h.names (omega (arith, size-is c h))
 
-listed-take : (c : NamedAlgebra) (k : ℕ) → k ≤ length c.names → listed k (name_at c) ≡ take k c.names
+listed-take : (c : NamedAlgebra) (k : ℕ) → k ≤ length c.names → listed k (base_name c) ≡ take k c.names
 unfolding listed
 listed-take c zero h = refl
 listed-take c (suc k) h =
-    ap (λ xs. xs ++ (name_at c k ∷ [])) (listed-take c k (omega arith)) ∙ ap (λ x. take k c.names ++ (x ∷ [])) (name-is c k)
+    ap (λ xs. xs ++ (base_name c k ∷ [])) (listed-take c k (omega arith)) ∙ ap (λ x. take k c.names ++ (x ∷ [])) (name-is c k)
     ∙ sym (take_more c.names k [] (omega arith)) ∙ ap (λ m. take m c.names) (add-one k)
 
-pub listed-names : (c : NamedAlgebra) → HasNames c → listed c.algebra.size (name_at c) ≡ c.names
+pub listed-names : (c : NamedAlgebra) → HasNames c → listed c.algebra.size (base_name c) ≡ c.names
 listed-names c h = listed-take c c.algebra.size (omega (arith, size-is c h)) ∙ take_all c.algebra.size c.names (omega (arith, size-is c h))
 
 not_true : (b : Bool) → (b ≡ true → ⊥) → b ≡ false
@@ -60,9 +60,9 @@ distinct-at : (c : NamedAlgebra) → HasNames c → (j k : ℕ) → j < k → k 
 distinct-at c h j k less below same =
     h.lawful.distinct j k less below (slice_get-get_or c.names j [] (omega arith) ∙ ap Some same ∙ sym (slice_get-get_or c.names k [] below))
 
-pub place_of-name : (c : NamedAlgebra) (r : ℕ) → HasNames c → r < c.algebra.size → place_of (name_at c r) c.names ≡ Some r
+pub place_of-name : (c : NamedAlgebra) (r : ℕ) → HasNames c → r < c.algebra.size → place_of (base_name c r) c.names ≡ Some r
 place_of-name c r h small =
-    place_of-found c.names (name_at c r) r h.lawful.distinct (slice_get-get_or c.names r [] (omega (arith, size-is c h)) ∙ ap Some (sym (name-is c r)))
+    place_of-found c.names (base_name c r) r h.lawful.distinct (slice_get-get_or c.names r [] (omega (arith, size-is c h)) ∙ ap Some (sym (name-is c r)))
 
 -- no name stands twice
 any-none : (x : List ℕ) (ys : List (List ℕ)) → ((j : ℕ) → j < length ys → get_or ys j [] ≡ x → ⊥) → list_any (λ o. bytes_eq x o) ys ≡ false

@@ -5,7 +5,7 @@ use Rattle.qsr_lex.specs.LineTokens.{name_at, names_at, after_kind, after_word, 
 use Rattle.qsr_lex.specs.declared.tokens.TokenKind.TheVariants.{Colon, Colons}
 use Rattle.calculus_table.specs.Rel.{IsWithin}
 use Rattle.calculus_table.specs.Names.{place_of}
-use Rattle.named_sets.specs.Named.{set_of}
+use Rattle.named_sets.specs.Named.{set_at}
 use Rattle.calculus_load.specs.declared.statement.Statement.{Statement}
 use Rattle.calculus_load.specs.declared.statement.Statement.TheVariants.{Converse, Entry}
 
@@ -16,27 +16,27 @@ some_names (name ∷ names) = Some (name ∷ names)
 
 -- `names ( N1 N2 .. Nn )`
 abbrev pub names_line : List Lexeme → Option (List (List ℕ))
-names_line words = after_word (codes "names") words >>= λ rest. names_at rest >>= λ found. at_end found.0 found.1 >>= some_names
+names_line tokens = after_word (codes "names") tokens >>= λ rest. names_at rest >>= λ found. at_end found.0 found.1 >>= some_names
 
 -- `identity N`
 abbrev pub identity_line : List Lexeme → Option (List ℕ)
-identity_line words = after_word (codes "identity") words >>= λ rest. name_at rest >>= λ found. at_end found.0 found.1
+identity_line tokens = after_word (codes "identity") tokens >>= λ rest. name_at rest >>= λ found. at_end found.0 found.1
 
 -- `A :: B`: the converse of A is B
 abbrev pub after_colons : List (List ℕ) → Option ℕ → List Lexeme → Option Statement
-after_colons names first words = name_at words >>= λ second. at_end (Converse first (place_of second.0 names)) second.1
+after_colons names first tokens = name_at tokens >>= λ second. at_end (Converse first (place_of second.0 names)) second.1
 
 abbrev pub converse_line : List (List ℕ) → List Lexeme → Option Statement
-converse_line names words = name_at words >>= λ first. after_kind Colons first.1 >>= after_colons names (place_of first.0 names)
+converse_line names tokens = name_at tokens >>= λ first. after_kind Colons first.1 >>= after_colons names (place_of first.0 names)
 
 -- `A : B :: ( C D .. )`: the composition of A and B is the set of C, D, ..
 abbrev pub after_colon : List (List ℕ) → Option ℕ → List Lexeme → Option Statement
-after_colon names first words =
-    name_at words >>= λ second. after_kind Colons second.1 >>= λ rest. names_at rest >>= λ found.
-    at_end (Entry first (place_of second.0 names) (set_of names found.0)) found.1
+after_colon names first tokens =
+    name_at tokens >>= λ second. after_kind Colons second.1 >>= λ rest. set_at names rest >>= λ found.
+    at_end (Entry first (place_of second.0 names) found.0) found.1
 
 abbrev pub entry_line : List (List ℕ) → List Lexeme → Option Statement
-entry_line names words = name_at words >>= λ first. after_kind Colon first.1 >>= after_colon names (place_of first.0 names)
+entry_line names tokens = name_at tokens >>= λ first. after_kind Colon first.1 >>= after_colon names (place_of first.0 names)
 
 -- either of the two
 abbrev pub or_else : {A : Type 0} → Option A → Option A → Option A
@@ -44,7 +44,7 @@ or_else (Some a) other = Some a
 or_else None other = other
 
 abbrev pub statement_line : List (List ℕ) → List Lexeme → Option Statement
-statement_line names words = or_else (converse_line names words) (entry_line names words)
+statement_line names tokens = or_else (converse_line names tokens) (entry_line names tokens)
 
 -- the numbers of the statement are below n, and so are the members of its set
 abbrev pub IsBoundedBy : ℕ → Statement → Type 0

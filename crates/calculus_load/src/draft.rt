@@ -1,4 +1,7 @@
 //! What the lines of a table file have given so far.
+//!
+//! Each converse and each composition has a place, which is empty until a line gives it. So a second line for one place is
+//! seen at once, and what no line gave is found by going over the places in order.
 ghost use Rattle.std.specs.Prelude.{◌≡◌, ◌+◌, ◌*◌, ◌-◌, ◌^◌, ◌<◌, ◌≤◌, map, length, replicate, None, MatchOption, MatchResult, IfSome, IfOk, IfErr, Ok, Err};
 ghost use Rattle.calculus_load.specs.Given.{first_missing, value_of};
 ghost use Rattle.calculus_load.specs.TableFile.{fault_of};
@@ -31,14 +34,14 @@ impl Model for Draft {
 }
 
 impl Draft {
-    ghost use Rattle.std.specs.Prelude.{◌≡◌, ◌-◌, ◌^◌, ◌<◌, ◌≤◌, map, length, MatchResult, IfOk, IfErr, Ok, Err};
+    ghost use Rattle.std.specs.Prelude.{◌≡◌, ◌-◌, ◌^◌, ◌<◌, ◌≤◌, map, length, MatchResult, IfOk, OnOk, IfErr, Ok, Err};
     ghost use Rattle.std.specs.String.{string_bytes};
     ghost use Rattle.calculus_table.specs.Rel.{IsWithin};
     ghost use Rattle.calculus_table.specs.Calculus.{IsNamedCalculus};
     ghost use Rattle.calculus_table.specs.declared.TheConstants.{MAX_BASES};
     ghost use Rattle.calculus_load.specs.Given.{Given, give_converse, give_entry, complete};
     ghost use Rattle.calculus_load.specs.Statements.{IsBoundedBy};
-    ghost use Rattle.calculus_load.specs.TableFile.{nothing_given, said, IsLoadFaultOf};
+    ghost use Rattle.calculus_load.specs.TableFile.{nothing_given, with_statement, IsLoadFaultOf};
 
     /// Nothing given but the names and the identity.
     pub(crate) fn new(alloc: Global, names: Vec<String>, identity: u32) -> Result<Draft, AllocError>
@@ -47,8 +50,8 @@ impl Draft {
         ensures { IfOk result (λ draft. draft ≡ nothing_given (map string_bytes names.items) identity) }
     {
         let size = names.len();
-        let converses = nothing(alloc, size)?;
-        let entries = nothing(alloc, size * size)?;
+        let converses = empty_places(alloc, size)?;
+        let entries = empty_places(alloc, size * size)?;
         Ok(Draft {
             names,
             identity,
@@ -57,21 +60,14 @@ impl Draft {
         })
     }
 
-    /// The names of the base relations.
-    pub(crate) fn names(&self) -> &[String]
-        ensures value { map string_bytes result.now ≡ self.now.names }
-        ensures few { length result.now ≤ MAX_BASES }
-        ensures length { length result.now ≡ length self.now.names }
-    {
-        &self.names
-    }
-
+    /// Puts in the converse of a base relation, unless it was given before.
     fn give_converse(&mut self, line: u32, of: u32, converse: u32) -> Result<(), LoadFault>
         requires first { of < length self.old.names }
         requires second { converse < length self.old.names }
-        ensures { MatchResult result
+        ensures value { MatchResult result
             (λ _. give_converse line of converse self.old ≡ Ok self.new)
             (λ fault. give_converse line of converse self.old ≡ Err fault) }
+        ensures names { OnOk result (self.new.names ≡ self.old.names) }
     {
         if self.converses[of as usize].is_some() {
             return Err(LoadFault::Twice { line });
@@ -80,13 +76,15 @@ impl Draft {
         Ok(())
     }
 
+    /// Puts in the composition of two base relations, unless it was given before.
     fn give_entry(&mut self, line: u32, first: u32, second: u32, set: Rel) -> Result<(), LoadFault>
         requires first { first < length self.old.names }
         requires second { second < length self.old.names }
         requires within { IsWithin set (2 ^ length self.old.names - 1) }
-        ensures { MatchResult result
+        ensures value { MatchResult result
             (λ _. give_entry line first second set self.old ≡ Ok self.new)
             (λ fault. give_entry line first second set self.old ≡ Err fault) }
+        ensures names { OnOk result (self.new.names ≡ self.old.names) }
     {
         let place = first as usize * self.names.len() + second as usize;
         if self.entries[place].is_some() {
@@ -99,9 +97,10 @@ impl Draft {
     /// Takes what a line says.
     pub(crate) fn take(&mut self, line: u32, statement: Statement) -> Result<(), LoadFault>
         requires { IsBoundedBy (length self.old.names) statement }
-        ensures { MatchResult result
-            (λ _. said line statement self.old ≡ Ok self.new)
-            (λ fault. said line statement self.old ≡ Err fault) }
+        ensures value { MatchResult result
+            (λ _. with_statement line statement self.old ≡ Ok self.new)
+            (λ fault. with_statement line statement self.old ≡ Err fault) }
+        ensures names { OnOk result (self.new.names ≡ self.old.names) }
     {
         match statement {
             Statement::Converse(Some(of), Some(converse)) => {
@@ -148,8 +147,8 @@ impl Draft {
     }
 }
 
-/// So many places at which nothing was given.
-fn nothing<T: Drop>(alloc: Global, count: usize) -> Result<Vec<Option<T>>, AllocError>
+/// `count` places at which nothing was given.
+fn empty_places<T: Drop>(alloc: Global, count: usize) -> Result<Vec<Option<T>>, AllocError>
     ensures { IfOk result (λ places. places.items ≡ replicate count None) }
 {
     let mut places = Vec::new(alloc);
@@ -182,12 +181,14 @@ fn first_missing<T>(given: &[Option<T>]) -> Option<usize>
     None
 }
 
+/// The numbers that were given.
 fn given_numbers(alloc: Global, given: &[Option<u32>]) -> Result<Vec<u32>, AllocError>
     ensures { IfOk result (λ numbers. numbers.items ≡ map value_of given.now) }
 {
     given.iter().map(|value| value.unwrap_or(0)).collect(alloc)
 }
 
+/// The sets that were given.
 fn given_sets(alloc: Global, given: &[Option<Rel>]) -> Result<Vec<Rel>, AllocError>
     ensures { IfOk result (λ sets. sets.items ≡ map value_of given.now) }
 {

@@ -1,304 +1,180 @@
 //! Reading a table file.
-ghost use Rattle.std.specs.Prelude.{◌≡◌, ◌+◌, ◌++◌, ◌<◌, ◌≤◌, unwrap_or, map, length, All, IfOk, IfErr, IfSome, MatchResult, Ok, Err, Some, true, false};
+//!
+//! The lines are read in order, each once, and the first faulty one decides. What each says is put into a draft, where a
+//! converse or a composition that was given before is a fault. After the end line the draft is looked through for what was
+//! not given, and last the four laws are tested.
+ghost use Rattle.std.specs.Prelude.{◌≡◌, ◌<◌, ◌≤◌, map, length, All, IfOk, OnOk, IfErr, Ok, Err, true, false};
 ghost use Rattle.std.specs.String.{string_bytes};
 ghost use Rattle.qsr_lex.specs.Names.{is_name};
-ghost use Rattle.qsr_lex.specs.LineTokens.{names_at, is_end_line};
-ghost use Rattle.qsr_lex.specs.Tokens.{AreApart};
-ghost use Rattle.qsr_lex.specs.TokenLines.{by_line, token_line};
-ghost use Rattle.calculus_load.specs.LinesToRead.{bad_lines, lines_to_read, end_place};
-ghost use Rattle.calculus_table.specs.Calculus.{IsNamedCalculus};
+ghost use Rattle.qsr_lex.specs.LineTokens.{is_end_line};
+ghost use Rattle.qsr_lex.specs.declared.TheConstants.{MAX_TEXT};
+ghost use Rattle.calculus_table.specs.Calculus.{AreDistinct, IsNamedCalculus};
 ghost use Rattle.calculus_table.specs.declared.TheConstants.{MAX_BASES};
-ghost use Rattle.calculus_load.specs.Names.{allowed_names};
-ghost use Rattle.calculus_load.specs.Statements.{names_line, identity_line, after_colons, after_colon, statement_line, IsBoundedBy};
-ghost use Rattle.calculus_load.specs.TableFile.{formed, known, named, identified, stated, nothing_after, statements, from_identity, from_names, given_by, table_of, IsFaultIn, IsLoadFaultOf, IsLineTaken};
+ghost use Rattle.calculus_load.specs.TableFile.{FailsWith, names_of_line, identity_of_line, statement_of_line, given_at_end, statements, from_identity, from_names, table_of, IsLoadFaultOf, IsLineTaken};
 
 use crate::draft::Draft;
-use crate::fault::LoadFault;
-use crate::lines::TableLines;
+use crate::fault::{LoadFault, end_fault, names_fault};
+use crate::forms::{identity_form, names_form, statement_form};
 use crate::names::first_repeat;
-use crate::statement::Statement;
-use calculus_table::{Calculus, MAX_BASES, TableFault, place_of};
-use named_sets::set_of;
-use qsr_lex::{
-    LineReader, NamesFault, Readable, TextLine, TokenKind, TokenReader, owned_names, readable,
-};
+use calculus_table::{Calculus, MAX_BASES, TableFault};
+use line_files::{FileLines, owned_names};
+use named_sets::BaseNames;
+use qsr_lex::TokenReader;
 use std::alloc::Global;
 
-/// Names in brackets, and goes after them.
-fn names_here<'a>(
-    alloc: Global,
-    line: u32,
-    words: &mut TokenReader<'a>,
-) -> Result<Vec<&'a [u8]>, LoadFault>
-    ensures ok { IfOk result (λ names. names_at words.old ≡ Some (map (λ name. name.now) names.items, words.new)) }
-    ensures each { IfOk result (λ names. All (λ name. is_name name.now ≡ true) names.items) }
-    ensures fault { IfErr result (IsFaultIn (formed line (names_at words.old))) }
+/// The calculus of a table file of at most `MAX_TEXT` bytes.
+pub fn read(alloc: Global, bytes: &[u8]) -> Result<Calculus, LoadFault>
+    requires { length bytes.now ≤ MAX_TEXT }
+    ensures ok { IfOk result (λ c. table_of bytes.now ≡ Ok c) }
+    ensures lawful { IfOk result IsNamedCalculus }
+    ensures fault { IfErr result (IsLoadFaultOf (table_of bytes.now)) }
 {
-    match words.names(alloc) {
-        Ok(names) => Ok(names),
-        Err(NamesFault::Form) => Err(LoadFault::Syntax { line }),
-        Err(NamesFault::Memory) => Err(LoadFault::Memory),
-    }
+    let mut lines = FileLines::new(bytes);
+    let draft = read_names(alloc, &mut lines)?;
+    draft.finish(alloc)
 }
 
-/// The names of `names ( N1 N2 .. Nn )`.
-fn names_line<'a>(
+/// What the names line and the lines after it say.
+fn read_names(alloc: Global, lines: &mut FileLines<'_>) -> Result<Draft, LoadFault>
+    ensures ok { IfOk result (λ draft. from_names lines.old.end lines.old.lines ≡ Ok draft) }
+    ensures fault { IfErr result (FailsWith (from_names lines.old.end lines.old.lines)) }
+{
+    let Some(mut line) = lines.next_line() else {
+        return Err(end_fault(lines.end()));
+    };
+    let found = names_of_line(alloc, line.number, &mut line.tokens)?;
+    let Ok(names) = owned_names(alloc, &found) else {
+        return Err(LoadFault::Memory);
+    };
+    let Ok(copy) = owned_names(alloc, &found) else {
+        return Err(LoadFault::Memory);
+    };
+    read_identity(alloc, lines, &BaseNames::new(&copy), names)
+}
+
+/// The names of the base relations, unless there are too many or one occurs twice.
+fn names_of_line<'a>(
     alloc: Global,
     line: u32,
-    mut words: TokenReader<'a>,
+    tokens: &mut TokenReader<'a>,
 ) -> Result<Vec<&'a [u8]>, LoadFault>
-    ensures ok { IfOk result (λ names. names_line words.entry ≡ Some (map (λ name. name.now) names.items)) }
+    ensures ok { IfOk result (λ names.
+        names_of_line line tokens.old ≡ Ok (map (λ name. name.now) names.items)) }
     ensures each { IfOk result (λ names. All (λ name. is_name name.now ≡ true) names.items) }
-    ensures fault { IfErr result (IsFaultIn (formed line (names_line words.entry))) }
+    ensures few { IfOk result (λ names. length names.items ≤ MAX_BASES) }
+    ensures distinct { IfOk result (λ names. AreDistinct (map (λ name. name.now) names.items)) }
+    ensures fault { IfErr result (FailsWith (names_of_line line tokens.old)) }
 {
-    if !words.take_word(b"names") {
-        return Err(LoadFault::Syntax { line });
+    let names = match names_form(alloc, tokens) {
+        Ok(names) => names,
+        Err(fault) => return Err(names_fault(line, fault)),
+    };
+    if names.len() > MAX_BASES as usize {
+        return Err(LoadFault::TooMany { line });
     }
-    let names = names_here(alloc, line, &mut words)?;
-    if names.is_empty() || !words.is_empty() {
-        return Err(LoadFault::Syntax { line });
+    if let Some(at) = first_repeat(&names) {
+        return Err(LoadFault::Table(TableFault::NameTwice { at: at as u32 }));
     }
     Ok(names)
 }
 
-/// The names as texts of their own, unless there are too many or one stands twice.
-fn allowed_names(alloc: Global, line: u32, names: &[&[u8]]) -> Result<Vec<String>, LoadFault>
-    requires { All (λ name. is_name name.now ≡ true) names.now }
-    ensures ok { IfOk result (λ texts. allowed_names line (map (λ name. name.now) names.now) ≡ Ok (map string_bytes texts.items)) }
-    ensures few { IfOk result (λ texts. length texts.items ≤ MAX_BASES) }
-    ensures fault { IfErr result (IsFaultIn (allowed_names line (map (λ name. name.now) names.now))) }
+/// What the identity line and the lines after it say.
+fn read_identity(
+    alloc: Global,
+    lines: &mut FileLines<'_>,
+    bases: &BaseNames<'_>,
+    names: Vec<String>,
+) -> Result<Draft, LoadFault>
+    requires few { length names.items ≤ MAX_BASES }
+    requires bases { bases.now ≡ map string_bytes names.items }
+    ensures ok { IfOk result (λ draft.
+        from_identity lines.old.end lines.old.lines bases.now ≡ Ok draft) }
+    ensures fault { IfErr result (FailsWith
+        (from_identity lines.old.end lines.old.lines bases.now)) }
 {
-    if names.len() > MAX_BASES as usize {
-        return Err(LoadFault::TooMany { line });
-    }
-    if let Some(at) = first_repeat(names) {
-        return Err(LoadFault::Table(TableFault::NameTwice { at: at as u32 }));
-    }
-    owned_names(alloc, names).map_err(|_| LoadFault::Memory)
-}
-
-/// The names of the base relations, from their line.
-fn named(alloc: Global, line: u32, words: TokenReader) -> Result<Vec<String>, LoadFault>
-    ensures ok { IfOk result (λ texts. named line words.entry ≡ Ok (map string_bytes texts.items)) }
-    ensures few { IfOk result (λ texts. length texts.items ≤ MAX_BASES) }
-    ensures fault { IfErr result (IsFaultIn (named line words.entry)) }
-{
-    let names = names_line(alloc, line, words)?;
-    allowed_names(alloc, line, &names)
+    let Some(mut line) = lines.next_line() else {
+        return Err(end_fault(lines.end()));
+    };
+    let identity = identity_of_line(line.number, &mut line.tokens, bases)?;
+    let Ok(mut draft) = Draft::new(alloc, names, identity) else {
+        return Err(LoadFault::Memory);
+    };
+    read_statements(lines, bases, &mut draft)?;
+    Ok(draft)
 }
 
 /// The identity, from its line.
-fn identified(names: &[String], line: u32, mut words: TokenReader) -> Result<u32, LoadFault>
-    requires { length names.now ≤ MAX_BASES }
-    ensures answer { MatchResult result
-        (λ id. identified (map string_bytes names.now) line words.entry ≡ Ok id)
-        (λ fault. identified (map string_bytes names.now) line words.entry ≡ Err fault) }
-    ensures below { IfOk result (λ id. id < length names.now) }
+fn identity_of_line(
+    line: u32,
+    tokens: &mut TokenReader<'_>,
+    bases: &BaseNames<'_>,
+) -> Result<u32, LoadFault>
+    ensures ok { IfOk result (λ id. identity_of_line bases.now line tokens.old ≡ Ok id) }
+    ensures below { IfOk result (λ id. id < length bases.now) }
+    ensures fault { IfErr result (λ fault. identity_of_line bases.now line tokens.old ≡ Err fault) }
 {
-    if !words.take_word(b"identity") {
-        return Err(LoadFault::Syntax { line });
-    }
-    let Some(name) = words.name() else {
+    let Some(name) = identity_form(tokens) else {
         return Err(LoadFault::Syntax { line });
     };
-    if !words.is_empty() {
-        return Err(LoadFault::Syntax { line });
-    }
-    match place_of(names, name) {
+    match bases.find(name) {
         Some(id) => Ok(id),
         None => Err(LoadFault::Unknown { line }),
     }
 }
 
-/// What `A :: B` says, from after the colons.
-fn after_colons(
-    names: &[String],
-    line: u32,
-    first: Option<u32>,
-    mut words: TokenReader,
-) -> Result<Statement, LoadFault>
-    requires few { length names.now ≤ MAX_BASES }
-    requires below { IfSome first (λ r. r < length names.now) }
-    ensures ok { IfOk result (λ statement. after_colons (map string_bytes names.now) first words.entry ≡ Some statement) }
-    ensures bounded { IfOk result (IsBoundedBy (length names.now)) }
-    ensures fault { IfErr result (IsFaultIn (formed line (after_colons (map string_bytes names.now) first words.entry))) }
-    ensures form { IfErr result (λ fault. fault ≡ LoadFault.Syntax line) }
+/// Puts into the draft what the lines up to the end line say, after which nothing may stand.
+fn read_statements(
+    lines: &mut FileLines<'_>,
+    bases: &BaseNames<'_>,
+    draft: &mut Draft,
+) -> Result<(), LoadFault>
+    requires { bases.now ≡ draft.old.names }
+    ensures ok { OnOk result
+        (statements lines.old.end lines.old.lines draft.old ≡ Ok draft.new) }
+    ensures fault { IfErr result (λ fault.
+        statements lines.old.end lines.old.lines draft.old ≡ Err fault) }
 {
-    let Some(second) = words.name() else {
-        return Err(LoadFault::Syntax { line });
-    };
-    if !words.is_empty() {
-        return Err(LoadFault::Syntax { line });
-    }
-    Ok(Statement::Converse(first, place_of(names, second)))
-}
-
-/// What `A : B :: ( C D .. )` says, from after the colon.
-fn after_colon(
-    alloc: Global,
-    names: &[String],
-    line: u32,
-    first: Option<u32>,
-    mut words: TokenReader,
-) -> Result<Statement, LoadFault>
-    requires few { length names.now ≤ MAX_BASES }
-    requires below { IfSome first (λ r. r < length names.now) }
-    ensures ok { IfOk result (λ statement. after_colon (map string_bytes names.now) first words.entry ≡ Some statement) }
-    ensures bounded { IfOk result (IsBoundedBy (length names.now)) }
-    ensures fault { IfErr result (IsFaultIn (formed line (after_colon (map string_bytes names.now) first words.entry))) }
-{
-    let Some(second) = words.name() else {
-        return Err(LoadFault::Syntax { line });
-    };
-    if !words.take_kind(TokenKind::Colons) {
-        return Err(LoadFault::Syntax { line });
-    }
-    let set = names_here(alloc, line, &mut words)?;
-    if !words.is_empty() {
-        return Err(LoadFault::Syntax { line });
-    }
-    Ok(Statement::Entry(first, place_of(names, second), set_of(names, &set)))
-}
-
-/// What a line says that gives a converse or a composition.
-fn statement(
-    alloc: Global,
-    names: &[String],
-    line: u32,
-    mut words: TokenReader,
-) -> Result<Statement, LoadFault>
-    requires { length names.now ≤ MAX_BASES }
-    ensures ok { IfOk result (λ statement. statement_line (map string_bytes names.now) words.entry ≡ Some statement) }
-    ensures bounded { IfOk result (IsBoundedBy (length names.now)) }
-    ensures fault { IfErr result (IsFaultIn (formed line (statement_line (map string_bytes names.now) words.entry))) }
-{
-    let Some(first) = words.name() else {
-        return Err(LoadFault::Syntax { line });
-    };
-    let first = place_of(names, first);
-    if words.take_kind(TokenKind::Colons) {
-        return after_colons(names, line, first, words);
-    }
-    if words.take_kind(TokenKind::Colon) {
-        return after_colon(alloc, names, line, first, words);
-    }
-    Err(LoadFault::Syntax { line })
-}
-
-/// Takes what a line says, or answers that it is the end line.
-fn take_line(alloc: Global, draft: &mut Draft, line: TextLine) -> Result<bool, LoadFault>
-    ensures ok { IfOk result (IsLineTaken (token_line line.entry.number line.entry.words) draft.old draft.new) }
-    ensures other { IfErr result (λ _. is_end_line line.entry.words ≡ false) }
-    ensures fault { IfErr result (IsFaultIn (stated (token_line line.entry.number line.entry.words) draft.old)) }
-{
-    let TextLine { number, mut words } = line;
-    if words.take_kind(TokenKind::Stop) {
-        if words.is_empty() {
-            return Ok(true);
+    while let Some(mut line) = lines.next_line() {
+        if read_statement(line.number, &mut line.tokens, bases, draft)? {
+            return read_end(lines, draft);
         }
-        return Err(LoadFault::Syntax { line: number });
     }
-    let said = statement(alloc, draft.names(), number, words)?;
-    draft.take(number, said)?;
+    Err(end_fault(lines.end()))
+}
+
+/// Puts into the draft what a line says. Returns whether it is the end line instead.
+fn read_statement(
+    line: u32,
+    tokens: &mut TokenReader<'_>,
+    bases: &BaseNames<'_>,
+    draft: &mut Draft,
+) -> Result<bool, LoadFault>
+    requires { bases.now ≡ draft.old.names }
+    ensures ok { IfOk result (IsLineTaken line tokens.old draft.old draft.new) }
+    ensures names { OnOk result (draft.new.names ≡ draft.old.names) }
+    ensures other { IfErr result (λ _. is_end_line tokens.old ≡ false) }
+    ensures fault { IfErr result (λ fault.
+        statement_of_line line tokens.old draft.old ≡ Err fault) }
+{
+    if tokens.is_end_line() {
+        return Ok(true);
+    }
+    let Some(statement) = statement_form(tokens, bases) else {
+        return Err(LoadFault::Syntax { line });
+    };
+    draft.take(line, statement)?;
     Ok(false)
 }
 
-/// After the end line no line with tokens may stand.
-fn nothing_after(lines: &mut TableLines, draft: &Draft) -> Result<(), LoadFault>
-    ensures { MatchResult result
-        (λ _. nothing_after lines.old draft.now ≡ Ok draft.now)
-        (λ fault. nothing_after lines.old draft.now ≡ Err fault) }
+/// Nothing, if nothing stands after the end line.
+fn read_end(lines: &mut FileLines<'_>, draft: &Draft) -> Result<(), LoadFault>
+    ensures ok { OnOk result
+        (given_at_end lines.old.end lines.old.lines draft.now ≡ Ok draft.now) }
+    ensures fault { IfErr result (λ fault.
+        given_at_end lines.old.end lines.old.lines draft.now ≡ Err fault) }
 {
-    match lines.next()? {
+    match lines.extra_line() {
+        Some(line) => Err(LoadFault::Syntax { line }),
         None => Ok(()),
-        Some(line) => Err(LoadFault::Syntax { line: line.number }),
     }
-}
-
-/// Takes what the lines up to the end line say.
-fn statements(
-    alloc: Global,
-    draft: &mut Draft,
-    lines: &mut TableLines,
-    end: u32,
-) -> Result<(), LoadFault>
-    ensures ok { IfOk result (λ _. statements end lines.old draft.old ≡ Ok draft.new) }
-    ensures fault { IfErr result (IsFaultIn (statements end lines.old draft.old)) }
-{
-    while let Some(line) = lines.next()? {
-        if take_line(alloc, draft, line)? {
-            return nothing_after(lines, draft);
-        }
-    }
-    Err(LoadFault::Syntax { line: end })
-}
-
-/// The identity line and what stands after it.
-fn from_identity(
-    alloc: Global,
-    lines: &mut TableLines,
-    end: u32,
-    names: Vec<String>,
-) -> Result<Draft, LoadFault>
-    requires { length names.items ≤ MAX_BASES }
-    ensures ok { IfOk result (λ draft. from_identity end lines.old (map string_bytes names.items) ≡ Ok draft) }
-    ensures fault { IfErr result (IsFaultIn (from_identity end lines.old (map string_bytes names.items))) }
-{
-    let Some(line) = lines.next()? else {
-        return Err(LoadFault::Syntax { line: end });
-    };
-    let identity = identified(&names, line.number, line.words)?;
-    let mut draft = Draft::new(alloc, names, identity).map_err(|_| LoadFault::Memory)?;
-    statements(alloc, &mut draft, lines, end)?;
-    Ok(draft)
-}
-
-/// All lines of a file.
-fn from_names(alloc: Global, lines: &mut TableLines, end: u32) -> Result<Draft, LoadFault>
-    ensures ok { IfOk result (λ draft. from_names end lines.old ≡ Ok draft) }
-    ensures fault { IfErr result (IsFaultIn (from_names end lines.old)) }
-{
-    let Some(line) = lines.next()? else {
-        return Err(LoadFault::Syntax { line: end });
-    };
-    let names = named(alloc, line.number, line.words)?;
-    from_identity(alloc, lines, end, names)
-}
-
-/// The tokens of the lines that can be read. The only error is want of memory.
-fn found(alloc: Global, bytes: &[u8]) -> Result<Readable, LoadFault>
-    requires { length bytes.now ≤ 16777216 }
-    ensures apart { IfOk result (λ found. AreApart 0 found.tokens.items (length bytes.now)) }
-    ensures lines { IfOk result (λ found. by_line bytes.now found.tokens.items ++ bad_lines found.bad_line ≡ lines_to_read bytes.now) }
-    ensures end { IfOk result (λ found. unwrap_or found.bad_line (found.count + 1) ≡ end_place bytes.now) }
-    ensures few { IfOk result (λ found. found.count ≤ 16777216) }
-    ensures memory { IfErr result (λ fault. fault ≡ LoadFault.Memory) }
-{
-    match readable(alloc, bytes) {
-        Ok(found) => Ok(found),
-        Err(_) => Err(LoadFault::Memory),
-    }
-}
-
-/// What the lines of a table file give.
-fn read_lines(alloc: Global, bytes: &[u8]) -> Result<Draft, LoadFault>
-    requires { length bytes.now ≤ 16777216 }
-    ensures ok { IfOk result (λ draft. given_by bytes.now ≡ Ok draft) }
-    ensures fault { IfErr result (IsFaultIn (given_by bytes.now)) }
-{
-    let found = found(alloc, bytes)?;
-    let end = found.bad_line.unwrap_or(found.count + 1);
-    let mut lines = TableLines::new(LineReader::new(bytes, &found.tokens), found.bad_line);
-    from_names(alloc, &mut lines, end)
-}
-
-/// The calculus of a table file of at most 16,777,216 bytes.
-pub fn read(alloc: Global, bytes: &[u8]) -> Result<Calculus, LoadFault>
-    requires { length bytes.now ≤ 16777216 }
-    ensures ok { IfOk result (λ c. table_of bytes.now ≡ Ok c) }
-    ensures lawful { IfOk result IsNamedCalculus }
-    ensures fault { IfErr result (IsLoadFaultOf (table_of bytes.now)) }
-{
-    let draft = read_lines(alloc, bytes)?;
-    draft.finish(alloc)
 }

@@ -1,6 +1,7 @@
+//! What a line of a table file says.
 use calculus_table::Rel;
 
-/// What a line says, with none where a name is of no base relation.
+/// What a line says, with none in place of the base relation of a name that none has.
 #[derive(Clone, Copy, Debug, PartialEq, Eq)]
 pub(crate) enum Statement {
     /// The converse of the first is the second.

@@ -1,6 +1,9 @@
+ghost use Rattle.std.specs.Prelude.{◌<◌};
+
 use super::{LoadFault, read, text};
 use calculus_builtin::{allen, point, rcc8};
-use calculus_table::{Calculus, MAX_BASES, TableFault};
+use calculus_table::{Calculus, Compose, Rel, TableFault};
+use qsr_lex::MAX_TEXT;
 use std::alloc::{AllocError, Global};
 use std::process::Abort;
 use std::test::Fail;
@@ -8,86 +11,6 @@ use std::test::Fail;
 /// The table file of Ramsey's calculus of two colours.
 const RAMSEY: &str =
     "names ( id a b )|identity id|id :: id|a :: a|b :: b|id : id :: ( id )|id : a :: ( a )|id : b :: ( b )|a : id :: ( a )|a : a :: ( id b )|a : b :: ( a b )|b : id :: ( b )|b : a :: ( a b )|b : b :: ( id a )|.|";
-
-/// The table file of RCC-8 up to the composition of EC and NTPP, between it and that of NTPPi and EC, and after it.
-const RCC8_FRONT: &str = "names ( DC EC PO TPP NTPP TPPi NTPPi EQ )
-identity EQ
-DC :: DC
-EC :: EC
-PO :: PO
-TPP :: TPPi
-NTPP :: NTPPi
-TPPi :: TPP
-NTPPi :: NTPP
-EQ :: EQ
-DC : DC :: ( DC EC PO TPP NTPP TPPi NTPPi EQ )
-DC : EC :: ( DC EC PO TPP NTPP )
-DC : PO :: ( DC EC PO TPP NTPP )
-DC : TPP :: ( DC EC PO TPP NTPP )
-DC : NTPP :: ( DC EC PO TPP NTPP )
-DC : TPPi :: ( DC )
-DC : NTPPi :: ( DC )
-DC : EQ :: ( DC )
-EC : DC :: ( DC EC PO TPPi NTPPi )
-EC : EC :: ( DC EC PO TPP TPPi EQ )
-EC : PO :: ( DC EC PO TPP NTPP )
-EC : TPP :: ( EC PO TPP NTPP )
-";
-
-const RCC8_MIDDLE: &str = "EC : TPPi :: ( DC EC )
-EC : NTPPi :: ( DC )
-EC : EQ :: ( EC )
-PO : DC :: ( DC EC PO TPPi NTPPi )
-PO : EC :: ( DC EC PO TPPi NTPPi )
-PO : PO :: ( DC EC PO TPP NTPP TPPi NTPPi EQ )
-PO : TPP :: ( PO TPP NTPP )
-PO : NTPP :: ( PO TPP NTPP )
-PO : TPPi :: ( DC EC PO TPPi NTPPi )
-PO : NTPPi :: ( DC EC PO TPPi NTPPi )
-PO : EQ :: ( PO )
-TPP : DC :: ( DC )
-TPP : EC :: ( DC EC )
-TPP : PO :: ( DC EC PO TPP NTPP )
-TPP : TPP :: ( TPP NTPP )
-TPP : NTPP :: ( NTPP )
-TPP : TPPi :: ( DC EC PO TPP TPPi EQ )
-TPP : NTPPi :: ( DC EC PO TPPi NTPPi )
-TPP : EQ :: ( TPP )
-NTPP : DC :: ( DC )
-NTPP : EC :: ( DC )
-NTPP : PO :: ( DC EC PO TPP NTPP )
-NTPP : TPP :: ( NTPP )
-NTPP : NTPP :: ( NTPP )
-NTPP : TPPi :: ( DC EC PO TPP NTPP )
-NTPP : NTPPi :: ( DC EC PO TPP NTPP TPPi NTPPi EQ )
-NTPP : EQ :: ( NTPP )
-TPPi : DC :: ( DC EC PO TPPi NTPPi )
-TPPi : EC :: ( EC PO TPPi NTPPi )
-TPPi : PO :: ( PO TPPi NTPPi )
-TPPi : TPP :: ( PO TPP TPPi EQ )
-TPPi : NTPP :: ( PO TPP NTPP )
-TPPi : TPPi :: ( TPPi NTPPi )
-TPPi : NTPPi :: ( NTPPi )
-TPPi : EQ :: ( TPPi )
-NTPPi : DC :: ( DC EC PO TPPi NTPPi )
-";
-
-const RCC8_BACK: &str = "NTPPi : PO :: ( PO TPPi NTPPi )
-NTPPi : TPP :: ( PO TPPi NTPPi )
-NTPPi : NTPP :: ( PO TPP NTPP TPPi NTPPi EQ )
-NTPPi : TPPi :: ( NTPPi )
-NTPPi : NTPPi :: ( NTPPi )
-NTPPi : EQ :: ( NTPPi )
-EQ : DC :: ( DC )
-EQ : EC :: ( EC )
-EQ : PO :: ( PO )
-EQ : TPP :: ( TPP )
-EQ : NTPP :: ( NTPP )
-EQ : TPPi :: ( TPPi )
-EQ : NTPPi :: ( NTPPi )
-EQ : EQ :: ( EQ )
-.
-";
 
 /// What is read of a text in which `|` stands for a line's end.
 fn read_rows(alloc: Global, rows: &[u8]) -> Result<Calculus, LoadFault> {
@@ -99,19 +22,21 @@ fn read_rows(alloc: Global, rows: &[u8]) -> Result<Calculus, LoadFault> {
     read_all(alloc, &bytes)
 }
 
+/// Reads a text that is no longer than a text may be.
 fn read_all(alloc: Global, bytes: &[u8]) -> Result<Calculus, LoadFault> {
-    if bytes.len() > 16_777_216 {
+    if bytes.len() > MAX_TEXT {
         return Err(LoadFault::Memory);
     }
     read(alloc, bytes)
 }
 
+/// The canonical text of what is read of a text in which `|` stands for a line's end.
 fn canonical(alloc: Global, rows: &[u8]) -> Result<String, LoadFault> {
     let c = read_rows(alloc, rows)?;
     text(alloc, &c).map_err(|_| LoadFault::Memory)
 }
 
-// Each text, in which `|` stands for a line's end, is refused with its fault.
+/// Asserts that each text, in which `|` stands for a line's end, is refused with its fault.
 fn are_refused(rt: &impl Abort, alloc: Global, rows: &[(&[u8], LoadFault)]) {
     for (text, fault) in rows {
         assert_eq!(rt; read_rows(alloc, text).err(), Some(*fault), "{text:?}");
@@ -254,6 +179,7 @@ fn a_text_that_lacks_lines_or_has_too_many_is_refused(rt: HostRuntime) {
     are_refused(&rt, rt.alloc(), &rows);
 }
 
+/// A table file of so many names and nothing else.
 fn names_line(alloc: Global, count: u32) -> Result<String, AllocError> {
     let mut text = String::new(alloc);
     text.push_str("names ( ")?;
@@ -264,6 +190,7 @@ fn names_line(alloc: Global, count: u32) -> Result<String, AllocError> {
     Ok(text)
 }
 
+/// A table file with a name of so many bytes.
 fn long_name(alloc: Global, length: u32) -> Result<String, AllocError> {
     let mut text = String::new(alloc);
     text.push_str("names ( ")?;
@@ -278,8 +205,8 @@ fn long_name(alloc: Global, length: u32) -> Result<String, AllocError> {
 fn names_have_their_limits(rt: HostRuntime) -> Result<(), Fail> {
     let alloc = rt.alloc();
     for (count, fault) in [
-        (MAX_BASES, LoadFault::Missing { r: 0, s: None }),
-        (MAX_BASES + 1, LoadFault::TooMany { line: 1 }),
+        (64, LoadFault::Missing { r: 0, s: None }),
+        (65, LoadFault::TooMany { line: 1 }),
     ] {
         let text = names_line(alloc, count)?;
         assert_eq!(rt;
@@ -316,25 +243,34 @@ fn a_table_is_written_in_its_canonical_form(rt: HostRuntime) -> Result<(), Fail>
     Ok(())
 }
 
-/// The table file of RCC-8 with these compositions of EC and NTPP and of NTPPi and EC.
-fn rcc8_text(alloc: Global, ec_ntpp: &str, ntppi_ec: &str) -> Result<String, AllocError> {
-    format!(in alloc;
-        "{RCC8_FRONT}EC : NTPP :: ( {ec_ntpp} )\n{RCC8_MIDDLE}NTPPi : EC :: ( {ntppi_ec} )\n{RCC8_BACK}"
-    )
+/// The table file of RCC-8, in which these lines stand in place of others.
+fn rcc8_with(alloc: Global, lines: &[(&str, &str)]) -> Result<String, LoadFault> {
+    let c = rcc8(alloc).map_err(|_| LoadFault::Memory)?;
+    let mut file = text(alloc, &c).map_err(|_| LoadFault::Memory)?;
+    for (old, new) in lines {
+        file = file.replace(alloc, old, new).map_err(|_| LoadFault::Memory)?;
+    }
+    Ok(file)
 }
 
 #[test]
-fn rcc8_is_read_and_written_again(rt: HostRuntime) -> Result<(), Fail> {
+fn a_bent_table_of_rcc8_is_refused(rt: HostRuntime) -> Result<(), Fail> {
     let alloc = rt.alloc();
-    let file = rcc8_text(alloc, "PO TPP NTPP", "PO TPPi NTPPi")?;
-    assert_eq!(rt; canonical(alloc, file.as_bytes())?, file);
-    let bent = rcc8_text(alloc, "EC PO TPP NTPP", "PO TPPi NTPPi")?;
+    let first = (
+        "EC : NTPP :: ( PO TPP NTPP )",
+        "EC : NTPP :: ( EC PO TPP NTPP )",
+    );
+    let second = (
+        "NTPPi : EC :: ( PO TPPi NTPPi )",
+        "NTPPi : EC :: ( EC PO TPPi NTPPi )",
+    );
+    let bent = rcc8_with(alloc, &[first])?;
     let fault = TableFault::ConverseLaw { r: 1, s: 4, t: 1 };
     assert_eq!(rt;
         read_all(alloc, bent.as_bytes()).err(),
         Some(LoadFault::Table(fault))
     );
-    let both = rcc8_text(alloc, "EC PO TPP NTPP", "EC PO TPPi NTPPi")?;
+    let both = rcc8_with(alloc, &[first, second])?;
     let fault = TableFault::CycleLaw { r: 1, s: 1, t: 6 };
     assert_eq!(rt;
         read_all(alloc, both.as_bytes()).err(),
@@ -357,5 +293,57 @@ fn built_in_calculi_are_read_again(rt: HostRuntime) -> Result<(), Fail> {
     is_read_again(&rt, alloc, &rcc8(alloc)?)?;
     is_read_again(&rt, alloc, &allen(alloc)?)?;
     is_read_again(&rt, alloc, &point(alloc)?)?;
+    Ok(())
+}
+
+/// Appends the compositions of `r` in the calculus of the numbers below 64 with addition.
+fn push_sums(text: &mut String, r: u32) -> Result<(), AllocError>
+    requires { r < 64 }
+{
+    for s in 0..64u32 {
+        writeln!(text, "r{r} : r{s} :: ( r{} )", (r + s) % 64)?;
+    }
+    Ok(())
+}
+
+/// Appends the converses in that calculus.
+fn push_negatives(text: &mut String) -> Result<(), AllocError> {
+    for r in 0..64u32 {
+        writeln!(text, "r{r} :: r{}", (64 - r) % 64)?;
+    }
+    Ok(())
+}
+
+/// Appends the names in that calculus.
+fn push_numbers(text: &mut String) -> Result<(), AllocError> {
+    for r in 0..64u32 {
+        write!(text, "r{r} ")?;
+    }
+    Ok(())
+}
+
+/// The table file of that calculus.
+fn sums_text(alloc: Global) -> Result<String, AllocError> {
+    let mut text = String::new(alloc);
+    text.push_str("names ( ")?;
+    push_numbers(&mut text)?;
+    text.push_str(")\nidentity r0\n")?;
+    push_negatives(&mut text)?;
+    for r in 0..64u32 {
+        push_sums(&mut text, r)?;
+    }
+    text.push_str(".\n")?;
+    Ok(text)
+}
+
+#[test]
+fn a_table_of_64_relations_is_read_and_written(rt: HostRuntime) -> Result<(), Fail> {
+    let alloc = rt.alloc();
+    let file = sums_text(alloc)?;
+    let c = read_all(alloc, file.as_bytes())?;
+    assert_eq!(rt; c.full().word(), u64::MAX);
+    assert_eq!(rt; c.compose(Rel::single(63), Rel::single(63)), Rel::single(62));
+    let written = text(alloc, &c).map_err(|_| LoadFault::Memory)?;
+    assert_eq!(rt; written, file);
     Ok(())
 }

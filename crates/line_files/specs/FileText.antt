@@ -1,10 +1,11 @@
 -- The lines of a text as a reader of files goes over them.
-use Rattle.std.specs.Prelude.{ℕ, ◌+◌, List, [], ◌∷◌, length, Option, Some, None, option_map, if◌then◌else◌}
+use Rattle.std.specs.Prelude.{ℕ, ◌+◌, ◌≤◌, List, [], ◌∷◌, length, Option, Some, None, option_map, if◌then◌else◌}
 use Rattle.qsr_lex.specs.Lexemes.{Lexeme, lexemes}
 use Rattle.qsr_lex.specs.TextLines.{text_lines, outside, is_clean, bad_line, line_count, readable_text}
 use Rattle.qsr_lex.specs.TokenLines.{TokenLine, token_line, add_line, token_lines}
 use Rattle.qsr_lex.specs.LineTokens.{after_word}
 use Rattle.qsr_lex.specs.Printed.{printed_token_lines}
+use Rattle.qsr_lex.specs.declared.TheConstants.{MAX_TEXT}
 use Rattle.line_files.specs.declared.lines.TextEnd.{TextEnd}
 use Rattle.line_files.specs.declared.lines.TextEnd.TheVariants.{BadLine, Whole}
 
@@ -43,6 +44,11 @@ abbrev pub extra_line : List TokenLine → TextEnd → Option ℕ
 extra_line (l ∷ ls) end = Some l.number
 extra_line [] (BadLine line) = Some line
 extra_line [] (Whole lines) = None
+
+-- a text has no more lines than it may have bytes
+abbrev pub IsEndWithin : TextEnd → Type 0
+IsEndWithin (BadLine line) = Unit {0}
+IsEndWithin (Whole lines) = lines ≤ MAX_TEXT
 
 -- ---- the same, said of the whole text
 

@@ -6,7 +6,7 @@
 ghost use Rattle.std.specs.Prelude.{◌≡◌, ◌≤◌, [], ◌∷◌, length, None, Some, MatchOption};
 ghost use Rattle.qsr_lex.specs.TokenLines.{token_line};
 ghost use Rattle.qsr_lex.specs.declared.TheConstants.{MAX_TEXT};
-ghost use Rattle.line_files.specs.FileText.{file_text, line_of, extra_line};
+ghost use Rattle.line_files.specs.FileText.{file_text, line_of, extra_line, IsEndWithin};
 
 use qsr_lex::{TokenReader, first_line};
 use std::marker::Model;
@@ -110,7 +110,8 @@ impl<'a> FileLines<'a> {
 
     /// What stands after the lines that can be read.
     pub fn end(&self) -> TextEnd
-        ensures { result ≡ self.now.end }
+        ensures value { result ≡ self.now.end }
+        ensures few { IsEndWithin result }
     {
         let mut text = self.text;
         let mut count = self.count;

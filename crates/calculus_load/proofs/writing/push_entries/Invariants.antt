@@ -5,4 +5,7 @@ use Rattle.calculus_load.specs.TableText.{row_text}
 use Rattle.calculus_load.proofs.writing.push_entries.Given as goal
 
 abbrev pub invariant-loop-r : goal.invariant-loop-r
-invariant-loop-r l = string_bytes l.text ≡ string_bytes l.fn.text ++ text_below l.r (row_text l.c)
+invariant-loop-r l = record {
+  text : string_bytes l.text ≡ string_bytes l.fn.text ++ text_below l.r (row_text l.c);
+  sets : l.sets ≡ l.c;
+}

@@ -5,4 +5,7 @@ use Rattle.calculus_load.specs.TableText.{entry_text}
 use Rattle.calculus_load.proofs.writing.push_row.Given as goal
 
 abbrev pub invariant-loop-s : goal.invariant-loop-s
-invariant-loop-s l = string_bytes l.text ≡ string_bytes l.fn.text ++ text_below l.s (entry_text l.c l.r)
+invariant-loop-s l = record {
+  text : string_bytes l.text ≡ string_bytes l.fn.text ++ text_below l.s (entry_text l.c l.r);
+  sets : l.sets ≡ l.c;
+}

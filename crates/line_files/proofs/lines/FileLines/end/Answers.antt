@@ -4,8 +4,8 @@ use Rattle.line_files.specs.FileText.{FileText}
 use Rattle.line_files.proofs.FileTexts.{file_text-line, file_text-bad}
 use Rattle.line_files.proofs.lines.FileLines.end.Goals as goal
 
-pub returns-in_default : goal.returns-in_default
-returns-in_default c =
+pub returns-in_default-clause-value : goal.returns-in_default-clause-value
+returns-in_default-clause-value c =
     let text = c.loop-text.text.now in
     let some : 0 < length text = grind (arith, c.is_empty.ensures, c.loop-text-test.true) in
     let bad : is_clean (first_line text) ≡ false = search rules in

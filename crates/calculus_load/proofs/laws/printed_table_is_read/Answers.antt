@@ -1,6 +1,6 @@
 use Rattle.calculus_load.proofs.Faults.{lawful_fault}
 use Rattle.calculus_load.proofs.ReadAgain.{text-again}
-use Rattle.calculus_load.proofs.again.text_is_read_again.Goals as goal
+use Rattle.calculus_load.proofs.laws.printed_table_is_read.Goals as goal
 
 pub returns : goal.returns
 returns c = record {
