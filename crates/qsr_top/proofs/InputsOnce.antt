@@ -2,11 +2,8 @@
 use Rattle.std.proofs.Common.{◌≡◌, ℕ, List, Option, None, Some, Result, Ok, Err, refl, sym, ◌∙◌, ap, subst, arith}
 use Rattle.std.specs.Prelude.{IsSomeAnd, MatchOption}
 use Rattle.calculus_table.specs.Calculus.{NamedAlgebra, IsNamedCalculus}
-use Rattle.calculus_table.specs.TableFault.{IsFaultOf}
-use Rattle.calculus_table.specs.declared.calculus.TableFault.{TableFault}
-use Rattle.calculus_table.specs.declared.calculus.TableFault.TheVariants as table
-use Rattle.calculus_table.proofs.Faults.{fault-one, no-fault}
-use Rattle.calculus_load.specs.TableFile.{table_of, IsLoadFaultOf, IsTableFaultOf}
+use Rattle.calculus_load.specs.TableFile.{table_of}
+use Rattle.calculus_load.proofs.Faults.{load-one, loaded-none}
 use Rattle.calculus_load.specs.declared.fault.LoadFault.{LoadFault}
 use Rattle.calculus_load.specs.declared.fault.LoadFault.TheVariants as load
 use Rattle.network_words.specs.Network.{Network}
@@ -43,28 +40,9 @@ DocumentOf-one documents name x y p q = some_once (document documents name) x y 
 none_or_some : (n : ℕ) (p : Place) (o : Option (ℕ × Place)) → o ≡ None → o ≡ Some (n, p) → ⊥
 none_or_some n p o a e = cc
 
--- a fault of a table that has a number is no want of memory
-table_fault_of : (c : NamedAlgebra) (f : TableFault) → IsTableFaultOf c f → IsFaultOf c.names c.algebra f × (f ≡ table.Memory → ⊥)
-table_fault_of c table.Memory h = absurd h
-table_fault_of c (table.NameTwice at) h = (h, λ e. cc)
-table_fault_of c (table.NotInvolution r) h = (h, λ e. cc)
-table_fault_of c (table.IdentityLaw r) h = (h, λ e. cc)
-table_fault_of c (table.ConverseLaw r s t) h = (h, λ e. cc)
-table_fault_of c (table.CycleLaw r s t) h = (h, λ e. cc)
-
-same_table_fault : (c : NamedAlgebra) (f g : TableFault) → IsTableFaultOf c f → IsTableFaultOf c g → f ≡ g
-same_table_fault c f g h k =
-    let p = table_fault_of c f h in let q = table_fault_of c g k in fault-one c.names c.algebra f g p.0 q.0 p.1 q.1
-
--- two numbered faults of a file are one
-numbered_fault : (table : Result NamedAlgebra LoadFault) (f g : LoadFault) (m n : ℕ) (p q : Place) → IsLoadFaultOf table f → IsLoadFaultOf table g →
-    load_refusal f ≡ Some (m, p) → load_refusal g ≡ Some (n, q) → f ≡ g
-numbered_fault table load.Memory g m n p q h k a b = absurd (none_or_some m p None refl a)
-numbered_fault table f load.Memory m n p q h k a b = absurd (none_or_some n q None refl b)
-numbered_fault (Err fault) f g m n p q h k a b = h ∙ sym k
-numbered_fault (Ok c) (load.Table f) (load.Table g) m n p q h k a b = ap load.Table (same_table_fault c f g h k)
-numbered_fault (Ok c) (load.Table f) g m n p q h k a b = absurd k
-numbered_fault (Ok c) f g m n p q h k a b = absurd h
+-- a fault that has a number isn't out of memory
+has_number : (f : LoadFault) (n : ℕ) (p : Place) → load_refusal f ≡ Some (n, p) → f ≡ load.Memory → ⊥
+has_number f n p a e = none_or_some n p (load_refusal f) (ap load_refusal e) a
 
 some_pair : (o : Option (ℕ × Place)) (m n : ℕ) (p q : Place) → o ≡ Some (m, p) → o ≡ Some (n, q) → (m ≡ n) × (p ≡ q)
 some_pair o m n p q a b =
@@ -78,17 +56,11 @@ pair_of f g m n p q e a b =
 
 tables_refused : (bytes : List ℕ) (m n : ℕ) (p q : Place) → RefusesTable bytes m p → RefusesTable bytes n q → refuses m p ≡ refuses n q
 tables_refused bytes m n p q h k =
-    pair_of (load_refusal h.fault) (load_refusal k.fault) m n p q (ap load_refusal (numbered_fault (table_of bytes) h.fault k.fault m n p q h.refused k.refused h.numbered k.numbered)) h.numbered k.numbered
+    pair_of (load_refusal h.fault) (load_refusal k.fault) m n p q (ap load_refusal (load-one bytes h.fault k.fault (has_number h.fault m p h.numbered) (has_number k.fault n q k.numbered) h.refused k.refused)) h.numbered k.numbered
 
 -- a table that is a calculus isn't refused
-calculus_or_refused : (c : NamedAlgebra) (f : LoadFault) (m : ℕ) (p : Place) → IsNamedCalculus c → IsLoadFaultOf (Ok c) f → load_refusal f ≡ Some (m, p) → ⊥
-calculus_or_refused c load.Memory m p lawful h e = none_or_some m p None refl e
-calculus_or_refused c (load.Table f) m p lawful h e = let t = table_fault_of c f h in t.1 (no-fault c.names c.algebra f lawful.lawful lawful.distinct t.0)
-calculus_or_refused c f m p lawful h e = absurd h
-
 table_or_refused : (bytes : List ℕ) (c : NamedAlgebra) (m : ℕ) (p : Place) → TableOf bytes (Ok c) → RefusesTable bytes m p → ⊥
-table_or_refused bytes c m p h k =
-    calculus_or_refused c k.fault m p h.1 (subst (λ t. IsLoadFaultOf t k.fault) h.0 k.refused) k.numbered
+table_or_refused bytes c m p h k = has_number k.fault m p k.numbered (loaded-none bytes c k.fault h.0 h.1 k.refused)
 
 ok_alike : {A E : Type 0} (r : Result A E) (x y : A) → r ≡ Ok x → r ≡ Ok y → x ≡ y
 ok_alike r x y p q = cc
