@@ -156,7 +156,8 @@ fn narrowed_after_two<R: Threads + Sync>(
 ) -> Option<((bool, bool, u64), Net)> {
     let (table, pass) = opened(alloc, c, 3, 2).ok()?;
     let passes = cut(&table, pass, 1)?;
-    let mut pass = in_two_threads(rt, &table, c, passes);
+    let (first, second) = in_two_threads(rt, &table, c, passes);
+    let mut pass = table.join(first, second);
     let found = narrow_twice(&table, &mut pass, c, snap)?;
     Some((found, closed(alloc, table, pass, 2)?))
 }
@@ -179,15 +180,34 @@ fn in_two_threads<R: Threads + Sync>(
     table: &OpenNet,
     c: &Calculus,
     passes: (Pass, Pass),
-) -> Pass
+) -> (Pass, Pass)
     requires first { IsPassOf table.now passes.0 }
     requires second { IsPassOf table.now passes.1 }
     requires calculus { c.now.algebra ≡ algebra_of table.now.opening }
+    ensures { IsPassOf table.now result.0 × IsPassOf table.now result.1 }
+{
+    let (first, second) = passes;
+    join(
+        rt,
+        move || -> Pass
+            requires { IsPassOf table.now first × (c.now.algebra ≡ algebra_of table.now.opening) }
+            ensures { IsPassOf table.entry.now result }
+        { stated(table, first, c, fact(0, 1, TPP)) },
+        move || -> Pass
+            requires { IsPassOf table.now second × (c.now.algebra ≡ algebra_of table.now.opening) }
+            ensures { IsPassOf table.entry.now result }
+        { stated(table, second, c, fact(1, 2, NTPP)) },
+    )
+}
+
+/// The pass after it has stated a fact.
+fn stated(table: &OpenNet, mut pass: Pass, c: &Calculus, fact: Fact) -> Pass
+    requires pass { IsPassOf table.now pass }
+    requires calculus { c.now.algebra ≡ algebra_of table.now.opening }
     ensures { IsPassOf table.now result }
 {
-    let first = [fact(0, 1, TPP)];
-    let second = [fact(1, 2, NTPP)];
-    by_two(rt, table, c, passes, &first, &second)
+    state(table, &mut pass, c, fact);
+    pass
 }
 
 /// What a second pass peeks and a third one refreshes, after the first has stated a fact.
