@@ -1,5 +1,5 @@
 -- Passes after a step: they stay passes, and what they have seen.
-use Rattle.std.proofs.Common.{◌≡◌, ◌≢◌, ◌↔◌, ℕ, ◌+◌, ◌<◌, ◌≤◌, Bool, true, false, cond, List, [], length, refl, sym, ◌∙◌, ap, subst, arith, inl, inr}
+use Rattle.std.proofs.Common.{◌≡◌, ◌≢◌, ◌↔◌, ℕ, ◌+◌, ◌<◌, ◌≤◌, Bool, true, false, cond, List, length, refl, sym, ◌∙◌, ap, subst, arith, inl, inr}
 use Rattle.std.specs.Prelude.{bit_and, slice_index, slice_set, nat_lt, IsTrue}
 use Rattle.std.proofs.lemmas.Bool.{cases_lt, cases_eq, lt-ltb, le-ltb}
 use Rattle.std.proofs.lemmas.List.{length-set, get_or-set_same, get_or-set_other}
@@ -9,19 +9,18 @@ use Rattle.atomic_table.specs.Seated.{TableId}
 use Rattle.calculus_table.specs.Rel.{IsWithin}
 use Rattle.calculus_table.specs.Algebra.{Algebra}
 use Rattle.calculus_table.specs.Composition.{full_of, composition, converse}
-use Rattle.calculus_table.proofs.Sets.{IsWithin-trans, IsWithin-meet_r}
 use Rattle.calculus_table.proofs.Compositions.{converse-mono, converse-converse}
 use Rattle.calculus_table.specs.Calculus.{IsCalculus}
 use Rattle.network_words.specs.declared.fact.Fact.{Fact}
-use Rattle.network_words.specs.Edge.{edge_count, edge_at, edge_between, IsSamePair, IsProperPair, IsProperTriple}
+use Rattle.network_words.specs.Edge.{edge_at, edge_between, IsSamePair, IsProperPair, IsProperTriple}
 use Rattle.network_words.specs.Closure.{IsClosedAt}
 use Rattle.network_words.specs.Network.{IsNetwork, Refines, relation_between, oriented}
-use Rattle.network_words.proofs.Networks.{Refines-refl, Refines-trans, relation_between-mono, relation_between-straight, relation_between-turned}
+use Rattle.network_words.proofs.Networks.{Refines-refl, Refines-trans, relation_between-mono}
 use Rattle.network_words.proofs.Pairs.{pair-first, pair-second, pair-outer, pair-from_edge}
 use Rattle.network_words.proofs.Refinements.{relation_between-same}
-use Rattle.narrow_core.specs.Actor.{ActorState, seeing, stating, giving, fresh, joining}
+use Rattle.narrow_core.specs.Actor.{ActorState, seeing, stating, joining}
 use Rattle.narrow_core.specs.Machine.{IsProperFact, IsProperActor}
-use Rattle.narrow_core.proofs.Cores.{proper-seeing, proper-stating, proper-giving, proper-fresh, proper-joining}
+use Rattle.narrow_core.proofs.Cores.{proper-seeing, proper-stating, proper-joining}
 use Rattle.narrow_core.proofs.Sights.{AreSets-network, seen-within}
 use Rattle.edge_table.specs.Opening.{PassState, IsPass, algebra_of}
 use Rattle.edge_table.specs.declared.rule.Opening.{Opening}

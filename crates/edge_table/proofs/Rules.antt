@@ -1,5 +1,5 @@
 -- The rule at the opening of a table.
-use Rattle.std.proofs.Common.{◌≡◌, ℕ, ◌<◌, ◌≤◌, List, [], ◌∷◌, length, take, refl, sym, ◌∙◌, ap, subst, arith, Some}
+use Rattle.std.proofs.Common.{◌≡◌, ℕ, ◌<◌, ◌≤◌, List, [], ◌∷◌, length, take, refl, sym, subst, arith, Some}
 use Rattle.std.specs.Prelude.{slice_get, IsTrue}
 use Rattle.std.specs.List.{All}
 use mathlib.Core.Option.{some}
@@ -12,7 +12,7 @@ use Rattle.calculus_table.specs.Composition.{full_of}
 use Rattle.network_words.specs.Edge.{edge_count}
 use Rattle.network_words.specs.Network.{Network, IsNetwork}
 use Rattle.narrow_core.specs.Actor.{ActorState, IsLiveAt}
-use Rattle.narrow_core.specs.Machine.{CoreState, opened}
+use Rattle.narrow_core.specs.Machine.{opened}
 use Rattle.narrow_core.specs.Bound.{IsWithinFact, Holds}
 use Rattle.narrow_core.proofs.Sights.{AreSets-network}
 use Rattle.narrow_core.proofs.Cores.{same_actor}

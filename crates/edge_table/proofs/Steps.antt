@@ -1,12 +1,10 @@
 -- Each step on the table is an event of its machine, so it keeps the rule.
-use Rattle.std.proofs.Common.{◌≡◌, ◌≢◌, ℕ, zero, suc, ◌<◌, ◌≤◌, false, true, cond, List, [], ◌∷◌, ◌++◌, length, take, set, get_or, refl, sym, ◌∙◌, ap, subst, arith, Some, inl, inr, sum}
+use Rattle.std.proofs.Common.{◌≡◌, ℕ, ◌<◌, ◌≤◌, false, true, cond, List, [], length, refl, sym, ◌∙◌, ap, subst, arith, Some}
 use Rattle.std.specs.Prelude.{bit_and, slice_get, slice_index, slice_set, nat_lt, IsTrue}
-use Rattle.std.specs.List.{All, sum_by}
-use Rattle.std.proofs.lemmas.Bool.{cases_lt, lt-ltb, le-ltb}
 use Rattle.std.proofs.lemmas.List.{length-set, get_or-set_same, set-get_or}
 use mathlib.Core.Option.{some}
 use lib.ListN.{get_elem?}
-use Rattle.atomic_table.specs.Table.{State, Me, Act, keeps, stepped, Allows, Splits, Joins}
+use Rattle.atomic_table.specs.Table.{State, Me, keeps, stepped, Allows, Splits, Joins}
 use Rattle.atomic_table.proofs.Lists.{set_else, set_again}
 use Rattle.std.proofs.lemmas.Option.{slice_get_within}
 use Rattle.calculus_table.specs.Rel.{IsWithin}
@@ -14,24 +12,20 @@ use Rattle.calculus_table.specs.Algebra.{Algebra}
 use Rattle.calculus_table.specs.Composition.{full_of, composition, converse}
 use Rattle.calculus_table.proofs.Sets.{IsWithin-antisym, IsWithin-meet_r}
 use Rattle.network_words.specs.declared.fact.Fact.{Fact}
-use Rattle.network_words.specs.Edge.{edge_count, edge_at, edge_between, IsProperPair, IsProperTriple}
+use Rattle.network_words.specs.Edge.{edge_count, edge_at, edge_between, IsProperTriple}
 use Rattle.network_words.specs.Network.{relation_between, narrowed_at, oriented}
 use Rattle.network_words.proofs.Pairs.{pair-outer, edge_between-lt}
-use Rattle.narrow_core.specs.declared.event.Event.{Event}
 use Rattle.narrow_core.specs.declared.event.Event.TheVariants.{Assert, Read, Narrow}
-use Rattle.narrow_core.specs.Actor.{ActorState, IsLiveAt, live_weight, fresh, seeing, stating, giving, joining}
+use Rattle.narrow_core.specs.Actor.{ActorState, IsLiveAt, fresh, seeing, stating, giving, joining}
 use Rattle.narrow_core.specs.Machine.{CoreState, IsProperFact}
-use Rattle.narrow_core.specs.Event.{IsAllowed, IsStep}
 use Rattle.narrow_core.specs.Bound.{Holds}
 use Rattle.narrow_core.proofs.Places.{get-set_same}
 use Rattle.narrow_core.proofs.Cores.{weights-one}
 use Rattle.narrow_core.proofs.Runs.{Holds-step, Holds-split, Holds-join}
-use Rattle.edge_table.specs.Opening.{padded, algebra_of}
+use Rattle.edge_table.specs.Opening.{algebra_of}
 use Rattle.edge_table.specs.Rule.{core_of, IsKept, Sees, States, Weighs, no_view}
-use Rattle.edge_table.specs.declared.TheConstants.{MAX_WEIGHT}
 use Rattle.edge_table.specs.declared.rule.Opening.{Opening}
-use Rattle.edge_table.proofs.Places.{get-found, take-set_below, take-index, length-take_below}
-use Rattle.edge_table.proofs.Rules.{length-padded}
+use Rattle.edge_table.proofs.Places.{get-found, take-set_below, take-index}
 
 -- ---- one edge narrowed
 

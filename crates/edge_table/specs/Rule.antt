@@ -1,5 +1,5 @@
 -- The rule of the table: its words and the views of its passes are a machine of which the bound holds.
-use Rattle.std.specs.Prelude.{◌≡◌, ℕ, ◌≤◌, false, List, [], ◌∷◌, length, take, slice_index}
+use Rattle.std.specs.Prelude.{◌≡◌, ℕ, ◌≤◌, false, [], length, take, slice_index}
 use Rattle.atomic_table.specs.Table.{State, Me}
 use Rattle.calculus_table.specs.Composition.{full_of}
 use Rattle.network_words.specs.Edge.{edge_count}

@@ -1,6 +1,5 @@
-use Rattle.std.proofs.Common.{◌≡◌, ◌<◌, ◌≤◌, ℕ, length, arith}
+use Rattle.std.proofs.Common.{arith}
 use Rattle.std.specs.Slots.{slots_items, slots_counts}
-use Rattle.network_words.specs.Edge.{edge_count}
 use Rattle.edge_table.proofs.Places.{IsWritten-none, IsWritten-more, IsWritten-all}
 use Rattle.edge_table.proofs.words.write_words.Goals as goal
 

@@ -1,5 +1,4 @@
-use Rattle.std.proofs.Common.{◌≡◌, ◌<◌, ◌∙◌, sym, ap, subst, arith}
-use Rattle.narrow_core.specs.Actor.{ActorState, giving, fresh}
+use Rattle.std.proofs.Common.{arith}
 use Rattle.edge_table.specs.Opening.{opening_of}
 use Rattle.edge_table.proofs.Rules.{some-padded}
 use Rattle.edge_table.proofs.Steps.{splits}

@@ -1,5 +1,4 @@
-use Rattle.std.proofs.Common.{◌≡◌, ℕ, ◌<◌, ◌≤◌, length, sym, subst, arith}
-use Rattle.std.specs.Prelude.{slice_index}
+use Rattle.std.proofs.Common.{subst, arith}
 use Rattle.calculus_table.specs.Rel.{IsWithin}
 use Rattle.calculus_table.specs.Composition.{full_of}
 use Rattle.edge_table.specs.Opening.{opening_of, algebra_of}

@@ -1,4 +1,4 @@
-use Rattle.std.proofs.Common.{◌≡◌, ◌∙◌, refl, ap, sym, subst}
+use Rattle.std.proofs.Common.{refl, sym, subst}
 use Rattle.calculus_table.specs.Rel.{IsWithin}
 use Rattle.calculus_table.proofs.Sets.{IsWithin-trans}
 use Rattle.network_words.specs.Edge.{edge_between}

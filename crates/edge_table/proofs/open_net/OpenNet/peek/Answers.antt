@@ -1,4 +1,4 @@
-use Rattle.std.proofs.Common.{◌≡◌, ◌∙◌, ap, sym, subst}
+use Rattle.std.proofs.Common.{◌∙◌, ap, sym, subst}
 use Rattle.calculus_table.specs.Rel.{IsWithin}
 use Rattle.edge_table.specs.Opening.{OpenState}
 use Rattle.edge_table.specs.Passes.{seen_between}

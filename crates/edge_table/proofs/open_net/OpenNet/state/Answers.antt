@@ -1,12 +1,10 @@
-use Rattle.std.proofs.Common.{◌≡◌, ℕ, ◌<◌, ◌≤◌, length, sym, subst, arith}
-use Rattle.std.specs.Prelude.{slice_index, bit_and}
+use Rattle.std.proofs.Common.{◌<◌, sym, subst, arith}
+use Rattle.std.specs.Prelude.{bit_and}
 use Rattle.calculus_table.specs.Rel.{IsWithin}
-use Rattle.calculus_table.specs.Composition.{full_of}
 use Rattle.calculus_table.proofs.Sets.{IsWithin-meet_r}
 use Rattle.network_words.specs.Edge.{edge_count, edge_between}
 use Rattle.network_words.proofs.Pairs.{edge_between-lt}
-use Rattle.narrow_core.specs.Machine.{IsProperFact}
-use Rattle.edge_table.specs.Opening.{opening_of, algebra_of}
+use Rattle.edge_table.specs.Opening.{opening_of}
 use Rattle.edge_table.proofs.Rules.{length-padded}
 use Rattle.edge_table.proofs.Steps.{seat_asserts}
 use Rattle.edge_table.proofs.Passes.{IsPass-states, proper-pass}

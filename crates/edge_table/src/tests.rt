@@ -1,0 +1,388 @@
+//! Tables of RCC-8 networks, narrowed by one thread and by several at once.
+ghost use Rattle.std.specs.Prelude.{◌≡◌, ◌<◌, ◌≤◌, ◌^◌, All, IfOk, IfSome, IsTrue, length};
+ghost use Rattle.calculus_table.specs.Rel.{IsWithin};
+ghost use Rattle.network_words.specs.Network.{IsNetwork};
+ghost use Rattle.calculus_table.specs.Composition.{full_of};
+ghost use Rattle.edge_table.specs.Opening.{IsPassOf, algebra_of};
+
+use super::*;
+use calculus_builtin::rcc8;
+use calculus_table::{Calculus, Compose, Memory, Rel};
+use closure_seq::close;
+use network_words::{Fact, Net};
+use std::alloc::Global;
+use std::test::Fail;
+use std::thread::{Threads, join};
+
+const TPP: u64 = 1 << 3;
+
+const NTPP: u64 = 1 << 4;
+
+/// A table over a network of which nothing is known.
+fn opened(alloc: Global, c: &Calculus, nodes: u32, weight: u32) -> Result<(OpenNet, Pass), Memory>
+    requires some { 0 < weight }
+    requires bounded { weight ≤ MAX_WEIGHT }
+    ensures nodes { IfOk result (λ t. t.0.opening.nodes ≡ nodes) }
+    ensures weight { IfOk result (λ t. t.0.opening.weight ≡ weight) }
+    ensures calculus { IfOk result (λ t. c.now.algebra ≡ algebra_of t.0.opening) }
+    ensures pass { IfOk result (λ t. IsPassOf t.0 t.1) }
+    ensures whole { IfOk result (λ t. t.1.actor.weight ≡ weight) }
+{
+    match Net::new(alloc, nodes, c.full()) {
+        Ok(net) => open(alloc, &net, c, weight),
+        Err(_) => Err(Memory),
+    }
+}
+
+/// States the fact, if it is one of the table and the calculus.
+fn state(table: &OpenNet, pass: &mut Pass, c: &Calculus, fact: Fact)
+    requires pass { IsPassOf table.now pass.old }
+    requires calculus { c.now.algebra ≡ algebra_of table.now.opening }
+    ensures pass { IsPassOf table.now pass.new }
+    ensures weight { pass.new.actor.weight ≡ pass.old.actor.weight }
+{
+    let nodes = table.nodes();
+    let there = fact.i < nodes && fact.j < nodes && fact.i != fact.j;
+    if there && fact.rel.within(c.full()) {
+        table.assert(pass, c, fact);
+    }
+}
+
+fn fact(i: u32, j: u32, word: u64) -> Fact {
+    let rel = Rel::of(word);
+    Fact { i, j, rel }
+}
+
+/// Narrows every triple of the table's nodes once by what the pass reads, in both directions.
+fn narrow_all(table: &OpenNet, pass: &mut Pass, c: &Calculus)
+    requires pass { IsPassOf table.now pass.old }
+    requires calculus { c.now.algebra ≡ algebra_of table.now.opening }
+    ensures pass { IsPassOf table.now pass.new }
+    ensures weight { pass.new.actor.weight ≡ pass.old.actor.weight }
+{
+    let nodes = table.nodes();
+    for i in 0..nodes {
+        for j in 0..nodes {
+            for k in 0..nodes {
+                narrow(table, pass, c, i, j, k);
+            }
+        }
+    }
+}
+
+/// Narrows along the triple, if it is one of the table's, and reads its last edge.
+fn narrow(table: &OpenNet, pass: &mut Pass, c: &Calculus, i: u32, j: u32, k: u32)
+    requires pass { IsPassOf table.now pass.old }
+    requires calculus { c.now.algebra ≡ algebra_of table.now.opening }
+    ensures pass { IsPassOf table.now pass.new }
+    ensures weight { pass.new.actor.weight ≡ pass.old.actor.weight }
+{
+    let nodes = table.nodes();
+    let there = i < nodes && j < nodes && k < nodes;
+    if there && i != j && j != k && i != k {
+        table.narrow(pass, c, i, j, k);
+        table.peek(pass, c, k, i);
+    }
+}
+
+/// States the facts one after another, and narrows all triples after each.
+fn state_all(table: &OpenNet, mut pass: Pass, c: &Calculus, facts: &[Fact]) -> Pass
+    requires pass { IsPassOf table.now pass }
+    requires calculus { c.now.algebra ≡ algebra_of table.now.opening }
+    ensures { IsPassOf table.now result }
+{
+    for fact in facts {
+        state(table, &mut pass, c, *fact);
+        narrow_all(table, &mut pass, c);
+    }
+    pass
+}
+
+/// Cuts a pass in two, if it has more than this weight.
+fn cut(table: &OpenNet, pass: Pass, left: u32) -> Option<(Pass, Pass)>
+    requires { IsPassOf table.now pass }
+    ensures { IfSome result (λ passes. IsPassOf table.now passes.0 × IsPassOf table.now passes.1) }
+{
+    if left == 0 || pass.weight() <= left {
+        return None;
+    }
+    Some(table.split(pass, left))
+}
+
+/// The words that the table is closed with, if the pass has this weight, which is the whole.
+fn closed(alloc: Global, table: OpenNet, pass: Pass, weight: u32) -> Option<Net>
+    requires pass { IsPassOf table pass }
+    requires whole { table.opening.weight ≡ weight }
+    ensures { IfSome result
+        (λ net. IsNetwork (algebra_of table.opening) net.nodes net.words) }
+{
+    let nodes = table.nodes();
+    let mut net = Net::new(alloc, nodes, Rel::EMPTY).ok()?;
+    if pass.weight() != weight || net.nodes() != nodes {
+        return None;
+    }
+    table.close(pass, &mut net);
+    Some(net)
+}
+
+/// What a pass sees of the edge from 0 to 2 of three nodes: whether it sees less of it by narrowing
+/// along 1, whether it does so again, and what it then sees.
+fn narrow_twice(
+    table: &OpenNet,
+    pass: &mut Pass,
+    c: &Calculus,
+    snap: &mut Snapshot,
+) -> Option<(bool, bool, u64)>
+    requires pass { IsPassOf table.now pass.old }
+    requires calculus { c.now.algebra ≡ algebra_of table.now.opening }
+    ensures pass { IsPassOf table.now pass.new }
+{
+    if table.nodes() != 3 || snap.words().len() != 3 {
+        return None;
+    }
+    table.refresh(pass, snap);
+    let first = table.narrow_from(pass, c, snap, 0, 1, 2);
+    let second = table.narrow_from(pass, c, snap, 0, 1, 2);
+    let rel = table.narrow(pass, c, 0, 1, 2);
+    Some((first, second, rel.word()))
+}
+
+/// Two threads state a fact each, and then one narrows: what it found, and the closed words.
+fn narrowed_after_two<R: Threads + Sync>(
+    rt: &R,
+    alloc: Global,
+    c: &Calculus,
+    snap: &mut Snapshot,
+) -> Option<((bool, bool, u64), Net)> {
+    let (table, pass) = opened(alloc, c, 3, 2).ok()?;
+    let passes = cut(&table, pass, 1)?;
+    let (first, second) = in_two_threads(rt, &table, c, passes);
+    let mut pass = table.join(first, second);
+    let found = narrow_twice(&table, &mut pass, c, snap)?;
+    Some((found, closed(alloc, table, pass, 2)?))
+}
+
+#[test]
+fn two_threads_state_and_one_narrows(rt: HostRuntime) -> Result<(), Fail> {
+    let c = rcc8(rt.alloc())?;
+    let mut snap = Snapshot::new(rt.alloc(), 3)?;
+    let found = narrowed_after_two(&rt, rt.alloc(), &c, &mut snap);
+    let (found, net) = found.ok_or("the table was not closed")?;
+    assert_eq!(rt; found, (true, false, NTPP));
+    assert_eq!(rt; snap.words(), [TPP, NTPP, NTPP].as_slice());
+    assert_eq!(rt; net.words(), [TPP, NTPP, NTPP].as_slice());
+    Ok(())
+}
+
+/// One thread states that 0 is a tangential part of 1, the other that 1 is an inner part of 2.
+fn in_two_threads<R: Threads + Sync>(
+    rt: &R,
+    table: &OpenNet,
+    c: &Calculus,
+    passes: (Pass, Pass),
+) -> (Pass, Pass)
+    requires first { IsPassOf table.now passes.0 }
+    requires second { IsPassOf table.now passes.1 }
+    requires calculus { c.now.algebra ≡ algebra_of table.now.opening }
+    ensures { IsPassOf table.now result.0 × IsPassOf table.now result.1 }
+{
+    let (first, second) = passes;
+    join(
+        rt,
+        move || -> Pass
+            requires { IsPassOf table.now first × (c.now.algebra ≡ algebra_of table.now.opening) }
+            ensures { IsPassOf table.entry.now result }
+        { stated(table, first, c, fact(0, 1, TPP)) },
+        move || -> Pass
+            requires { IsPassOf table.now second × (c.now.algebra ≡ algebra_of table.now.opening) }
+            ensures { IsPassOf table.entry.now result }
+        { stated(table, second, c, fact(1, 2, NTPP)) },
+    )
+}
+
+/// The pass after it has stated a fact.
+fn stated(table: &OpenNet, mut pass: Pass, c: &Calculus, fact: Fact) -> Pass
+    requires pass { IsPassOf table.now pass }
+    requires calculus { c.now.algebra ≡ algebra_of table.now.opening }
+    ensures { IsPassOf table.now result }
+{
+    state(table, &mut pass, c, fact);
+    pass
+}
+
+/// What a second pass peeks and a third one refreshes, after the first has stated a fact.
+fn seen_by_others(alloc: Global, c: &Calculus, snap: &mut Snapshot) -> Option<u64> {
+    let (table, pass) = opened(alloc, c, 3, 3).ok()?;
+    let (first, second) = cut(&table, pass, 1)?;
+    let (first, third) = cut(&table, first, 1)?;
+    state_and_look(&table, c, first, second, third, snap)
+}
+
+/// The first pass states a fact, the second peeks at its pair, and the third reads every edge.
+fn state_and_look(
+    table: &OpenNet,
+    c: &Calculus,
+    mut first: Pass,
+    mut second: Pass,
+    mut third: Pass,
+    snap: &mut Snapshot,
+) -> Option<u64>
+    requires first { IsPassOf table.now first }
+    requires second { IsPassOf table.now second }
+    requires third { IsPassOf table.now third }
+    requires calculus { c.now.algebra ≡ algebra_of table.now.opening }
+{
+    if table.nodes() != 3 || snap.words().len() != 3 {
+        return None;
+    }
+    state(table, &mut first, c, fact(0, 1, TPP));
+    let rel = table.peek(&mut second, c, 0, 1);
+    table.refresh(&mut third, snap);
+    Some(rel.word())
+}
+
+#[test]
+fn passes_see_what_others_state(rt: HostRuntime) -> Result<(), Fail> {
+    let c = rcc8(rt.alloc())?;
+    let mut snap = Snapshot::new(rt.alloc(), 3)?;
+    assert_eq!(rt; seen_by_others(rt.alloc(), &c, &mut snap), Some(TPP));
+    assert_eq!(rt; snap.words(), [TPP, 255, 255].as_slice());
+    Ok(())
+}
+
+/// A table of one node, whose pass is cut in two and joined again.
+fn cut_and_joined(alloc: Global, c: &Calculus) -> Option<Net> {
+    let (table, pass) = opened(alloc, c, 1, 2).ok()?;
+    let (first, second) = cut(&table, pass, 1)?;
+    let pass = table.join(first, second);
+    closed(alloc, table, pass, 2)
+}
+
+/// A table of two nodes, closed after this fact.
+fn closed_after(alloc: Global, c: &Calculus, fact: Fact) -> Option<Net> {
+    let (table, mut pass) = opened(alloc, c, 2, 1).ok()?;
+    state(&table, &mut pass, c, fact);
+    closed(alloc, table, pass, 1)
+}
+
+#[test]
+fn small_tables_are_closed(rt: HostRuntime) -> Result<(), Fail> {
+    let c = rcc8(rt.alloc())?;
+    let one = cut_and_joined(rt.alloc(), &c).ok_or("one node")?;
+    assert_eq!(rt; one.words().len(), 0);
+    let two = closed_after(rt.alloc(), &c, fact(1, 0, 0)).ok_or("two nodes")?;
+    assert_eq!(rt; two.words(), [0].as_slice());
+    Ok(())
+}
+
+/// Two threads state facts and narrow by them, on one table at once.
+fn by_two<R: Threads + Sync>(
+    rt: &R,
+    table: &OpenNet,
+    c: &Calculus,
+    passes: (Pass, Pass),
+    facts: &[Fact],
+    others: &[Fact],
+) -> Pass
+    requires first { IsPassOf table.now passes.0 }
+    requires second { IsPassOf table.now passes.1 }
+    requires calculus { c.now.algebra ≡ algebra_of table.now.opening }
+    ensures { IsPassOf table.now result }
+{
+    let (first, second) = passes;
+    let (first, second) = join(
+        rt,
+        move || -> Pass
+            requires { IsPassOf table.now first × (c.now.algebra ≡ algebra_of table.now.opening) }
+            ensures { IsPassOf table.entry.now result }
+        { state_all(table, first, c, facts) },
+        move || -> Pass
+            requires { IsPassOf table.now second × (c.now.algebra ≡ algebra_of table.now.opening) }
+            ensures { IsPassOf table.entry.now result }
+        { state_all(table, second, c, others) },
+    );
+    table.join(first, second)
+}
+
+/// The words of a table that two threads have narrowed by the facts.
+fn narrowed_by_threads<R: Threads + Sync>(
+    rt: &R,
+    alloc: Global,
+    c: &Calculus,
+    facts: &[Fact],
+) -> Option<Net>
+    ensures { IfSome result (λ net. IsNetwork c.now.algebra net.nodes net.words) }
+{
+    let (table, pass) = opened(alloc, c, 5, 2).ok()?;
+    let passes = cut(&table, pass, 1)?;
+    let (first, second) = facts.split_at(facts.len() / 2);
+    let pass = by_two(rt, &table, c, passes, first, second);
+    closed(alloc, table, pass, 2)
+}
+
+/// Those words, closed once more.
+fn closed_by_threads<R: Threads + Sync>(
+    rt: &R,
+    alloc: Global,
+    c: &Calculus,
+    facts: &[Fact],
+) -> Result<Net, Fail> {
+    let net = narrowed_by_threads(rt, alloc, c, facts);
+    let mut net = net.ok_or("the table was not closed")?;
+    close(alloc, &mut net, c)?;
+    Ok(net)
+}
+
+/// The closure of the facts, on one thread.
+fn closed_at_once(alloc: Global, c: &Calculus, facts: &[Fact]) -> Result<Net, Fail>
+    requires within { All (λ fact. IsWithin fact.rel (full_of c.now.algebra)) facts.now }
+    requires few { length facts.now < 2 ^ 32 }
+{
+    let mut net = Net::new(alloc, 5, c.full())?;
+    net.add_facts(c, facts)?;
+    close(alloc, &mut net, c)?;
+    Ok(net)
+}
+
+/// Whether each fact has a set of the calculus.
+fn are_of_the_calculus(c: &Calculus, facts: &[Fact]) -> bool
+    ensures { IsTrue result → All (λ fact. IsWithin fact.rel (full_of c.now.algebra)) facts.now }
+{
+    for fact in facts {
+        if !fact.rel.within(c.full()) {
+            return false;
+        }
+    }
+    true
+}
+
+#[test]
+fn threads_that_narrow_at_once_lose_nothing(rt: HostRuntime) -> Result<(), Fail> {
+    let c = rcc8(rt.alloc())?;
+    let facts = [
+        fact(0, 1, TPP),
+        fact(2, 1, 1 << 6),
+        fact(2, 3, NTPP | TPP | 4),
+        fact(3, 4, 2),
+        fact(4, 0, 255 - 4),
+        fact(1, 3, TPP | NTPP),
+    ];
+    assert!(rt; are_of_the_calculus(&c, &facts));
+    let expected = closed_at_once(rt.alloc(), &c, &facts)?;
+    for round in 0..200 {
+        let net = closed_by_threads(&rt, rt.alloc(), &c, &facts)?;
+        assert_eq!(rt; net.words(), expected.words(), "in round {round}");
+    }
+    Ok(())
+}
+
+fn is_sent<T: Send>() {}
+
+fn is_shared<T: Send + Sync>() {}
+
+#[test]
+fn tables_are_shared_and_passes_sent() {
+    is_shared::<OpenNet>();
+    is_sent::<Pass>();
+    is_sent::<Snapshot>();
+}
