@@ -22,5 +22,7 @@ pub(crate) fn is_word_byte(byte: u8) -> bool
     ensures { result ≡ is_word_byte byte }
 {
     // Letters pass the first test, and digits the second.
-    byte > b':' || byte.is_ascii_digit() || !matches!(byte, b' ' | b'\t' | b'(' | b')' | b',' | b':' | b'#')
+    byte > b':'
+        || byte.is_ascii_digit()
+        || !matches!(byte, b' ' | b'\t' | b'(' | b')' | b',' | b':' | b'#')
 }
