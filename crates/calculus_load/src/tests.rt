@@ -248,7 +248,9 @@ fn rcc8_with(alloc: Global, lines: &[(&str, &str)]) -> Result<String, LoadFault>
     let c = rcc8(alloc).map_err(|_| LoadFault::Memory)?;
     let mut file = text(alloc, &c).map_err(|_| LoadFault::Memory)?;
     for (old, new) in lines {
-        file = file.replace(alloc, old, new).map_err(|_| LoadFault::Memory)?;
+        file = file
+            .replace(alloc, old, new)
+            .map_err(|_| LoadFault::Memory)?;
     }
     Ok(file)
 }
@@ -342,7 +344,10 @@ fn a_table_of_64_relations_is_read_and_written(rt: HostRuntime) -> Result<(), Fa
     let file = sums_text(alloc)?;
     let c = read_all(alloc, file.as_bytes())?;
     assert_eq!(rt; c.full().word(), u64::MAX);
-    assert_eq!(rt; c.compose(Rel::single(63), Rel::single(63)), Rel::single(62));
+    assert_eq!(rt;
+        c.compose(Rel::single(63), Rel::single(63)),
+        Rel::single(62)
+    );
     let written = text(alloc, &c).map_err(|_| LoadFault::Memory)?;
     assert_eq!(rt; written, file);
     Ok(())

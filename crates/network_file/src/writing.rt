@@ -13,15 +13,26 @@ use named_sets::SetWriter;
 use network_words::Net;
 use std::alloc::{AllocError, Global};
 
+/// How many bytes an edge's line seldom has more than, over a small calculus.
+const LINE_LEN: usize = 48;
+
 /// The canonical text of a network, whose sets are written by the names of `c`.
 pub fn text(alloc: Global, net: &Net, c: &Calculus) -> Result<String, Memory>
     ensures { IfOk result (λ text. string_bytes text ≡ network_text c.now net.now) }
 {
-    let mut text = String::new(alloc);
+    let mut text = String::with_capacity(alloc, likely_len(net)).map_err(|_| Memory)?;
     let mut sets = SetWriter::new(alloc, c)?;
     let numbers = number_texts(alloc, net.nodes())?;
     push_network(&mut text, net, &mut sets, &numbers)?;
     Ok(text)
+}
+
+/// About how many bytes the text has, so that it is seldom copied while it grows.
+fn likely_len(net: &Net) -> usize {
+    net.words()
+        .len()
+        .saturating_mul(LINE_LEN)
+        .saturating_add(64)
 }
 
 /// The number of each node below `nodes`, with a space after it.

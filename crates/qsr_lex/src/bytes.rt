@@ -21,6 +21,6 @@ pub(crate) fn is_plain(byte: u8) -> bool
 pub(crate) fn is_word_byte(byte: u8) -> bool
     ensures { result ≡ is_word_byte byte }
 {
-    // Letters pass the first test, and digits the second.
-    byte > b':' || byte.is_ascii_digit() || !matches!(byte, b' ' | b'\t' | b'(' | b')' | b',' | b':' | b'#')
+    // Letters pass the first test.
+    byte > b':' || !matches!(byte, b' ' | b'\t' | b'(' | b')' | b',' | b':' | b'#')
 }
