@@ -39,7 +39,7 @@ Refines-inside m n words other work s l inside = record {
   each = by_edge IsWithin n other words l IsWithin-empty (λ i j o b.
       let p = pair-ordered n i j o b in
       let w : IsWithin (relation_between m n other i j) (relation_between m n words i j) =
-          rw (← s.sets i j p, ← s.nodes) (inside i j (subst (λ k. IsProperPair k i j) (sym s.nodes) p)) in
+      rw (← s.sets i j p, ← s.nodes) (inside i j (subst (λ k. IsProperPair k i j) (sym s.nodes) p)) in
       rw (relation_between-straight m n other i j o, relation_between-straight m n words i j o) at w);
 }
 
@@ -87,6 +87,7 @@ module _ (m : Algebra) (n : ℕ) (words closure : List ℕ) (a b : Worklist) (ne
         | inl h ↦ relation_between-straight m n closure i k h ∙ z (edge_at n i k)
         | inr h ↦ relation_between-turned m n closure i k h ∙ ap (converse m) (z (edge_at n k i)) ∙ converse-empty m
       ]
+
       gone : (other : List ℕ) (i k : ℕ) → IsCalculus m → IsNetwork m n other → IsClosed m n other → IsProperPair n i k → relation_between m n other i k ≡ 0 → (e : ℕ) → slice_index other e ≡ 0
       gone other i k c other-net closed p at e = elim (cases_lt i k) [
         | inl o ↦ closed-empty m n (edge_at n i k) other c other-net closed (edge_at-lt n i k o p.second_below) (sym (relation_between-straight m n other i k o) ∙ at) e

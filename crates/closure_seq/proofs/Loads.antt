@@ -47,9 +47,11 @@ IsRowLoaded-pair m n words work i j x y z o b xe ye p =
     turned : {i j : ℕ} (a c : ℕ) → IsSamePair c a i j → IsSamePair a c i j
     turned a c (inl s) = inr (s.1, s.0)
     turned a c (inr s) = inl (s.1, s.0)
+
     apart : (i j : ℕ) → i < j → (a c : ℕ) → a < i → a < c → ¬ IsSamePair a c i j
     apart i j o a c ai ac (inl s) = omega (arith, s.0)
     apart i j o a c ai ac (inr s) = omega (arith, s.0)
+
     different : (i j : ℕ) → i < j → (q : ℕ) → q ≢ j → ¬ IsSamePair i q i j
     different i j o q ne (inl s) = ne s.1
     different i j o q ne (inr s) = omega (arith, s.0)

@@ -47,7 +47,7 @@ module _ (m : Algebra) (work : Worklist) (i j k : ℕ) (c : IsCalculus m) (s : A
 
 -- the same by what was read and computed
 module _ (m : Algebra) (work new : Worklist) (i j k x : ℕ) (c : IsCalculus m) (s : AreConverses m work) (z : IsSized work) (t : IsProperTriple work.nodes i j k)
-  (e : x ≡ bit_and (set_of work i k) (composition m (set_of work i j) (set_of work j k))) (stored : new ≡ refined m work i k x) where
+    (e : x ≡ bit_and (set_of work i k) (composition m (set_of work i j) (set_of work j k))) (stored : new ≡ refined m work i k x) where
   pub step-read : x ≢ set_of work i k → IsStep m work new
   step-read ne = rw (stored, e) (IsStep-narrowed m work i j k c s z t (λ h. ne (e ∙ h)))
 

@@ -10,3 +10,6 @@ mod work;
 
 pub use closing::{close, close_with};
 pub use work::Work;
+
+#[cfg(test)]
+mod tests;

@@ -24,9 +24,11 @@ fn load_pair<C: Compose, const P: usize>(work: &mut PairSets, net: &Net, c: &C, 
     requires network { IsNetwork (C.algebra c.now) net.now.nodes net.now.words }
     requires order { i < j }
     requires below { j < net.now.nodes }
-    ensures value { work.new ≡ record work.old { sets = with_pair work.old.sets i j
-        (relation_between (C.algebra c.now) net.now.nodes net.now.words i j)
-        (relation_between (C.algebra c.now) net.now.nodes net.now.words j i) } }
+    ensures value { work.new ≡ record work.old {
+      sets = with_pair work.old.sets i j
+          (relation_between (C.algebra c.now) net.now.nodes net.now.words i j)
+          (relation_between (C.algebra c.now) net.now.nodes net.now.words j i);
+    } }
     ensures sized { IsSized work.old }
 {
     lawful(c);

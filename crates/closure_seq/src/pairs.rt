@@ -44,6 +44,7 @@ pub(crate) struct PairSets {
     bytes: Vec<u8>,
     queued: Vec<bool>,
     order: Order,
+    taken: u64,
 }
 
 impl Model for PairSets {
@@ -82,6 +83,7 @@ impl PairSets {
             bytes,
             queued,
             order,
+            taken: 0,
         })
     }
 
@@ -224,7 +226,14 @@ impl PairSets {
         let _ = &self.nodes;
         let (i, j) = self.next_queued()?;
         self.queued[(256 * i + j) as usize] = false;
+        self.taken = self.taken.wrapping_add(1);
         Some((i, j))
+    }
+
+    /// How many edges were taken off the queue so far.
+    #[cfg(test)]
+    pub(crate) fn taken(&self) -> u64 {
+        self.taken
     }
 
     /// Takes every edge off the queue.

@@ -37,8 +37,9 @@ fn refine<C: Compose, const P: usize>(work: &mut PairSets, c: &C, i: u32, k: u32
     requires proper { IsProperPair work.old.nodes i k }
     requires within { IsWithin rel (full_of (C.algebra c.now)) }
     ensures value { work.new ≡ record work.old {
-        sets = with_pair work.old.sets i k rel (converse (C.algebra c.now) rel);
-        queued = slice_set work.old.queued (edge_place i k) true } }
+      sets = with_pair work.old.sets i k rel (converse (C.algebra c.now) rel);
+      queued = slice_set work.old.queued (edge_place i k) true;
+    } }
     ensures sized { IsSized work.old }
 {
     work.put::<P>(i, k, rel);

@@ -14,7 +14,7 @@ loop-j-preserved c =
     let below : c.loop-j.j < n = omega (arith, c.loop-j-test.true, c.nodes-nodes.ensures.value) in
     let order : c.args.i < c.loop-j.j = omega (arith, c.loop-j.auto.j) in
     let at : c.edge_between.result ≡ edge_at n c.args.i c.loop-j.j =
-        c.edge_between.ensures.value ∙ ap (λ k. edge_between k c.args.i c.loop-j.j) c.nodes-nodes.ensures.value ∙ edge_between-straight n c.args.i c.loop-j.j order in
+    c.edge_between.ensures.value ∙ ap (λ k. edge_between k c.args.i c.loop-j.j) c.nodes-nodes.ensures.value ∙ edge_between-straight n c.args.i c.loop-j.j order in
     record {
       rest = rest-words c.args.net.now c.loop-j.net c.set-in-loop-j.new.self _ p.rest c.set-in-loop-j.ensures;
       length_is = ap (λ (y : Network). length y.words) c.set-in-loop-j.ensures ∙ length-set _ _ _ ∙ p.length_is;

@@ -33,8 +33,8 @@ pub loop-i-smaller : goal.loop-i-smaller
 loop-i-smaller g c =
     let w = c.loop-i.work in
     let less : work_left c.pop.new.self < work_left w =
-        subst (λ (y : Worklist). work_left y < work_left w) (sym c.in-Some.ensures.taken)
-        (work_left-popped w c.in-Some.i c.in-Some.j c.pop.ensures.sized (waiting-pair w c.in-Some.i c.in-Some.j c.in-Some.ensures.queued) c.in-Some.ensures.queued.queued) in
+    subst (λ (y : Worklist). work_left y < work_left w) (sym c.in-Some.ensures.taken)
+    (work_left-popped w c.in-Some.i c.in-Some.j c.pop.ensures.sized (waiting-pair w c.in-Some.i c.in-Some.j c.in-Some.ensures.queued) c.in-Some.ensures.queued.queued) in
     let step = c.in_ok-propagate.ensures.step.less in
     omega arith
 

@@ -14,11 +14,10 @@ invariant_of-self g c =
     let ib : c.args.i < n = rw (← c.self.view_is) at c.requires.first in
     let jb : c.args.j < n = rw (← c.self.view_is) at c.requires.second in
     let planes : c.self.inside.planes ≡ g.row.P = rw (← c.self.view_is) at c.requires.planes in
-    let whole : take c.self.inside.bytes.len (c.put_set.new.bytes ++ drop (length c.put_set.new.bytes) c.self.inside.bytes.items) ≡ c.put_set.new.bytes = grind (arith, common_steps) in
-    (
+    let whole : take c.self.inside.bytes.len (c.put_set.new.bytes ++ drop (length c.put_set.new.bytes) c.self.inside.bytes.items) ≡ c.put_set.new.bytes = grind (arith, common_steps) in (
       IsSized-put work (256 * c.args.i + c.args.j) c.args.rel z,
       rw whole
-      (AreBytesOf-put work c.self.inside.bytes.items c.put_set.new.bytes c.args.i c.args.j c.args.rel z ib jb (let size = c.put_set.auto.bytes in let was = ap length c.deref_mut.ensures.value in size ∙ was) b
-      (λ p l. c.put_set.ensures.here p (omega arith))
-      (λ e apart. c.put_set.ensures.elsewhere e (λ p l. apart p (omega arith)) ∙ ap (λ xs. slice_index xs e) c.deref_mut.ensures.value)),
+          (AreBytesOf-put work c.self.inside.bytes.items c.put_set.new.bytes c.args.i c.args.j c.args.rel z ib jb (let size = c.put_set.auto.bytes in let was = ap length c.deref_mut.ensures.value in size ∙ was) b
+          (λ p l. c.put_set.ensures.here p (omega arith))
+          (λ e apart. c.put_set.ensures.elsewhere e (λ p l. apart p (omega arith)) ∙ ap (λ xs. slice_index xs e) c.deref_mut.ensures.value)),
     )

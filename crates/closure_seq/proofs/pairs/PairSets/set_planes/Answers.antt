@@ -14,8 +14,7 @@ invariant_of-self c =
           (let sets-len : vec_len c.self.inside.sets ≡ length c.self.inside.sets.items = omega (arith, c.self.inside.sets.ok.0) in
           let bytes-len : vec_len c.self.inside.bytes ≡ length c.self.inside.bytes.items = omega (arith, c.self.inside.bytes.ok.0) in
           let sets = w.fill.ensures.items (λ y e. e) in
-          let bytes = w.fill-then-self-planes.ensures.items (λ y e. e) in
-          (
+          let bytes = w.fill-then-self-planes.ensures.items (λ y e. e) in (
             record {
               some = z.some;
               bounded = z.bounded;
@@ -24,10 +23,9 @@ invariant_of-self c =
             },
             AreBytesOf-empty _ w.fill-then-self-planes.new.self.items _ c.requires sets (bytes ∙ ap (λ (n : ℕ). replicate {A = ℕ} n 0) (bytes-len ∙ b.length_is)),
           ))
-      | else-self-planes w ↦ rw w.self-inside-is
-          (
-            record { some = z.some; bounded = z.bounded; sets_length = z.sets_length; queued_length = z.queued_length },
-            AreBytesOf-fewer (record { nodes = c.self.inside.nodes; planes = c.self.inside.planes; sets = c.self.inside.sets.items; queued = c.self.inside.queued.items })
+      | else-self-planes w ↦ rw w.self-inside-is (
+        record { some = z.some; bounded = z.bounded; sets_length = z.sets_length; queued_length = z.queued_length },
+        AreBytesOf-fewer (record { nodes = c.self.inside.nodes; planes = c.self.inside.planes; sets = c.self.inside.sets.items; queued = c.self.inside.queued.items })
             c.self.inside.bytes.items c.args.planes w.if-self-planes.false b,
-          )
+      )
     ]
