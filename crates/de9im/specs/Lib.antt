@@ -1,0 +1,4 @@
+pub mod Matrix
+pub mod Scans
+pub mod Cuts
+pub mod Matrices

@@ -1,0 +1,9 @@
+pub mod Places
+pub mod Rings
+pub mod Small
+pub mod Located
+pub mod West
+pub mod Rects
+pub mod Met
+pub mod Checks
+pub mod Built

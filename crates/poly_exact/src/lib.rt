@@ -1,0 +1,18 @@
+//! Rings of whole-number vertices and the rational points on, in and out of them.
+#![tactic(auto)]
+
+mod checks;
+mod edges;
+mod locations;
+mod points;
+mod rects;
+mod rings;
+
+pub use checks::{Simplicity, check, check_edge, is_good_pair, is_odd, is_west};
+pub use edges::{
+    Ends, Meeting, are_apart, are_beyond, sides_of, meet, on_line, overlap, reach_at, compare_sides, turn_at,
+};
+pub use locations::{Location, RayHit, cast_ray, is_between, is_in_box, judge, locate};
+pub use points::{HalfPoint, Point, height, orient, products, turn};
+pub use rects::{Rect, bounding_rect, greater, grow, is_off, lesser, next_index};
+pub use rings::{Ring, RingFault, are_proper, first_large, is_small, lefts};

@@ -1,0 +1,106 @@
+//! Where a spot lies to a ring.
+
+ghost use Rattle.std.specs.Prelude.{◌≡◌, ◌<◌, ◌≤◌, length, IsTrue, ◌↔◌, ◌*ℤ◌, pos, true, ℕ, ℤ};
+ghost use Rattle.poly_exact.specs.Places.{IsBetween};
+ghost use Rattle.poly_exact.specs.Small.{IsShort, IsSmall, IsSmallHalfPoint, place};
+ghost use Rattle.poly_exact.specs.Located.{IsRayHit, IsLocated, AreSmall, judged, is_within, is_boxed};
+
+use crate::{Point, HalfPoint, height, turn};
+
+/// How an edge lies to a spot.
+#[derive(Clone, Copy)]
+pub enum RayHit {
+    /// The spot is on the edge.
+    On,
+    /// The edge crosses the spot's height at its right.
+    Crosses,
+    /// Neither.
+    Misses,
+}
+
+/// Where a spot lies to a ring.
+#[derive(Clone, Copy)]
+pub enum Location {
+    In,
+    On,
+    Out,
+}
+
+/// Whether `2 * u <= z <= 2 * v` or the other way round.
+pub fn is_between(u: i64, v: i64, z: i64) -> bool
+    requires first { IsShort u }
+    requires second { IsShort v }
+    ensures { result ≡ is_within u v z }
+{
+    if u <= v {
+        u * 2 <= z && z <= v * 2
+    } else {
+        v * 2 <= z && z <= u * 2
+    }
+}
+
+/// By the turn, the two heights, whether the edge rises, and whether the spot is within the edge's box.
+pub fn judge(t: i64, first: i64, second: i64, rise: bool, within: bool) -> RayHit
+    ensures { result ≡ judged t first second rise within }
+{
+    if t < 0 {
+        if (first >= 0) != (second >= 0) && !rise {
+            RayHit::Crosses
+        } else {
+            RayHit::Misses
+        }
+    } else if t > 0 {
+        if (first >= 0) != (second >= 0) && rise {
+            RayHit::Crosses
+        } else {
+            RayHit::Misses
+        }
+    } else if within {
+        RayHit::On
+    } else {
+        RayHit::Misses
+    }
+}
+
+/// Whether the spot is within the box of the edge `a b`.
+#[tactic(auto, using(crate::proofs::Judged::short_x, crate::proofs::Judged::short_y))]
+pub fn is_in_box(a: Point, b: Point, p: HalfPoint) -> bool
+    requires first { IsSmall a }
+    requires second { IsSmall b }
+    requires spot { IsSmallHalfPoint p }
+    ensures { result ≡ is_boxed a b p }
+{
+    is_between(a.x, b.x, p.x) && is_between(a.y, b.y, p.y)
+}
+
+/// How the edge `a b` lies to the spot.
+pub fn cast_ray(a: Point, b: Point, p: HalfPoint) -> RayHit
+    requires first { IsSmall a }
+    requires second { IsSmall b }
+    requires spot { IsSmallHalfPoint p }
+    ensures { IsRayHit result a b (place p) }
+{
+    let t = turn(a, b, p);
+    let first = height(a, p);
+    let second = height(b, p);
+    let rise = a.y < b.y;
+    judge(t, first, second, rise, is_in_box(a, b, p))
+}
+
+/// Where the spot lies to the ring of the vertices.
+pub fn locate(vs: &[Point], p: HalfPoint) -> Location
+    requires vertices { AreSmall vs.now }
+    requires spot { IsSmallHalfPoint p }
+    ensures { IsLocated result vs.now (place p) }
+{
+    let mut odd = false;
+    for k in 0..vs.len() {
+        let end = if k + 1 < vs.len() { k + 1 } else { 0 };
+        match cast_ray(vs[k], vs[end], p) {
+            RayHit::On => return Location::On,
+            RayHit::Crosses => odd = !odd,
+            RayHit::Misses => {}
+        }
+    }
+    if odd { Location::In } else { Location::Out }
+}

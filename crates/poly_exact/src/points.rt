@@ -1,0 +1,66 @@
+//! Turns and heights.
+
+ghost use Rattle.std.specs.Prelude.{◌≡◌, ℤ, pos, neg_ℤ, ◌+ℤ◌, ◌-ℤ◌, ◌*ℤ◌, ◌<ℤ◌, ◌≤ℤ◌, int_lt, IsTrue};
+ghost use Rattle.poly_exact.specs.Places as specs;
+ghost use Rattle.poly_exact.specs.Small.{IsSmall, IsSmallHalfPoint, IsShort, place, place_at, sign_of};
+
+/// A vertex.
+#[derive(Clone, Copy, Debug, PartialEq, Eq)]
+pub struct Point {
+    pub x: i64,
+    pub y: i64,
+}
+
+/// The point `(x / 2, y / 2)`.
+#[derive(Clone, Copy, Debug, PartialEq, Eq)]
+pub struct HalfPoint {
+    pub x: i64,
+    pub y: i64,
+}
+
+/// `a * b + c * d`.
+pub fn products(a: i64, b: i64, c: i64, d: i64) -> i64
+    requires first { IsShort a }
+    requires second { IsShort b }
+    requires third { IsShort c }
+    requires fourth { IsShort d }
+    ensures { result ≡ a *ℤ b +ℤ c *ℤ d }
+{
+    a * b + c * d
+}
+
+/// Twice the turn from the edge `a b` to the spot: above 0 where the spot is at its left.
+pub fn turn(a: Point, b: Point, p: HalfPoint) -> i64
+    requires first { IsSmall a }
+    requires second { IsSmall b }
+    requires spot { IsSmallHalfPoint p }
+    ensures { result ≡ specs.turn a b (place p) }
+{
+    products(a.x * 2 - p.x, b.y - a.y, p.y - a.y * 2, b.x - a.x)
+}
+
+/// How far the spot is above the vertex, twice.
+pub fn height(a: Point, p: HalfPoint) -> i64
+    requires vertex { IsSmall a }
+    requires spot { IsSmallHalfPoint p }
+    ensures { result ≡ specs.above a (place p) }
+{
+    p.y - a.y * 2
+}
+
+/// The sign of the turn from `a` by `b` to `c`.
+pub fn orient(a: Point, b: Point, c: Point) -> i32
+    requires first { IsSmall a }
+    requires second { IsSmall b }
+    requires third { IsSmall c }
+    ensures { result ≡ sign_of (specs.turn a b (place_at c)) }
+{
+    let t = products(a.x - c.x, b.y - a.y, c.y - a.y, b.x - a.x);
+    if t < 0 {
+        -1
+    } else if t > 0 {
+        1
+    } else {
+        0
+    }
+}
