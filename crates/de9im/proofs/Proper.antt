@@ -15,7 +15,7 @@ use Rattle.poly_exact.proofs.Local.{mixed_weight}
 use Rattle.poly_exact.proofs.Inner.{one, near_part, back_part, IsOnEdge-between}
 use Rattle.de9im.proofs.Halves.{box, opposite}
 use Rattle.poly_exact.proofs.RingLaw.{parity}
-use Rattle.poly_exact.proofs.VertexPlaces.{at}
+use Rattle.poly_exact.proofs.VertexPlaces.{at, first_on, second_on}
 
 -- ---- a little towards another place
 

@@ -9,7 +9,7 @@ ghost use Rattle.poly_exact.specs.West.{IsRing};
 ghost use Rattle.de9im.specs.Cuts.{IsCut, IsNearer, IsNextCut, IsUncrossed, IsAllUncrossed, IsSample, IsSight, IsBoundary, seen, joined};
 ghost use Rattle.poly_exact.specs.Rects.{CoversTo};
 
-use crate::{Rect, Location, Point, HalfPoint, next_index, bounding_rect, is_off, locate, reach_at, turn_at};
+use poly_exact::{HalfPoint, Location, Point, Rect, bounding_rect, is_off, locate, next_index, reach_at, turn_at};
 
 /// Whether some place is in, and whether some place is out.
 #[derive(Clone, Copy)]

@@ -6,7 +6,8 @@ ghost use Rattle.de9im.specs.Scans.{IsSound, IsDone};
 ghost use Rattle.de9im.specs.Cuts.{IsBoundary};
 ghost use Rattle.de9im.specs.Matrices.{IsMatrix, AreViews, IsUnmetRing, given, gathered};
 
-use crate::{Contacts, Location, Point, Sight, HalfPoint, boundary, locate, scan, see};
+use crate::{Contacts, Sight, boundary, scan, see};
+use poly_exact::{HalfPoint, Location, Point, locate};
 
 /// A dimension, or F where there is nothing.
 #[derive(Clone, Copy, Debug, PartialEq, Eq)]

@@ -7,9 +7,9 @@ ghost use Rattle.poly_exact.specs.Rings.{vertex, next, IsSimple};
 ghost use Rattle.poly_exact.specs.West.{IsRing, IsWest, flag};
 ghost use Rattle.de9im.specs.Scans.{IsLevel, noted, IsSound, IsMore, IsEdgeDone, IsDone};
 ghost use Rattle.std.specs.Prelude.{◌≤ℤ◌};
-ghost use Rattle.poly_exact.specs.Rects.{IsGrown, CoversTo, IsOff};
+ghost use Rattle.poly_exact.specs.Rects.{CoversTo, IsOff};
 
-use crate::{Meeting, Point, are_apart, meet};
+use poly_exact::{Meeting, Point, are_apart, bounding_rect, is_off, meet, next_index};
 
 /// What was found so far.
 #[derive(Clone, Copy)]
