@@ -11,8 +11,7 @@ use Rattle.poly_exact.specs.Rings.{vertex, next}
 use Rattle.poly_exact.specs.Small.{IsSmall}
 use Rattle.poly_exact.specs.Located.{AreSmall}
 use Rattle.poly_exact.specs.West.{IsWest}
-use Rattle.poly_exact.specs.Checks.{AreProper}
-use Rattle.poly_exact.specs.Built.{AreFlags, AreSmallTo, AreProperTo}
+use Rattle.poly_exact.specs.Built.{AreFlags, AreSmallTo}
 
 pub flags_none : (vs : List Point) (xs : List Bool) → xs ≡ [] → AreFlags vs xs 0
 flags_none vs xs e = record { many = ap length e; sides = λ e h. absurd (omega arith) }
@@ -53,14 +52,3 @@ pub differ : (a b : Point) → (int_eq a.x b.x && int_eq a.y b.y) ≡ false → 
 differ a b f e =
     let g : (int_eq a.x a.x && int_eq a.y a.y) ≡ false = (λ i. int_eq a.x (e i).x && int_eq a.y (e i).y) ∙ f in
     false≢true (sym g ∙ (λ i. int_same a.x i && int_same a.y i))
-
-pub proper_none : (vs : List Point) → AreProperTo vs 0
-proper_none vs = record { each = λ k h. absurd (omega arith) }
-
-pub proper_more : (vs : List Point) (k n : ℕ) → n ≡ next vs k → vertex vs k ≢ vertex vs n → AreProperTo vs k → AreProperTo vs (k + 1)
-proper_more vs k n e s h = record {
-  each = λ j b. elim (cases_lt j k) [ inl x ↦ h.each j x | inr x ↦ (let q : j ≡ k = omega arith in subst (λ i. vertex vs i ≢ vertex vs (next vs i)) (sym q) (subst (λ i. vertex vs k ≢ vertex vs i) e s)) ];
-}
-
-pub proper_end : (vs : List Point) (k : ℕ) → length vs ≤ k → AreProperTo vs k → AreProper vs
-proper_end vs k l h = record { each = λ j b. h.each j (omega arith) }

@@ -25,3 +25,4 @@ pub mod Lines
 pub mod Covering
 pub mod Checked
 pub mod Built
+pub mod KeptVertices

@@ -6,4 +6,5 @@ pub mod West
 pub mod Rects
 pub mod Met
 pub mod Checks
+pub mod Kept
 pub mod Built

@@ -15,4 +15,4 @@ pub use edges::{
 pub use locations::{Location, RayHit, cast_ray, is_between, is_in_box, judge, locate};
 pub use points::{HalfPoint, Point, height, orient, products, turn};
 pub use rects::{Rect, bounding_rect, greater, grow, is_off, lesser, next_index};
-pub use rings::{Ring, RingFault, are_proper, first_large, is_small, lefts};
+pub use rings::{Memory, Ring, RingFault, first_large, is_small, lefts};

@@ -1,30 +1,39 @@
 //! Simple rings.
 
-ghost use Rattle.std.specs.Prelude.{◌≡◌, ℕ, ◌<◌, ◌≤◌, length, IsTrue, ◌↔◌, List};
-ghost use Rattle.std.specs.Result.{IfErr, IfOk};
-ghost use Rattle.std.specs.Option.{IfNone, IfSome};
+ghost use Rattle.std.specs.Prelude.{◌≡◌, ℕ, ◌<◌, ◌≤◌, ◌^◌, length, IsTrue, ◌↔◌, List, IfErr, IfOk, IfNone, IfSome};
 ghost use Rattle.poly_exact.specs.Small.{IsSmall};
 ghost use Rattle.poly_exact.specs.declared.points.Point.{Point};
-ghost use Rattle.poly_exact.specs.Rings.{IsSimple};
+ghost use Rattle.poly_exact.specs.Rings.{vertex, IsSimple};
 ghost use Rattle.poly_exact.specs.Located.{AreSmall};
 ghost use Rattle.poly_exact.specs.West.{IsRing};
 ghost use Rattle.poly_exact.specs.Checks.{AreProper};
-ghost use Rattle.poly_exact.specs.Built.{AreFlags, IsFault, IsFirstLarge};
+ghost use Rattle.poly_exact.specs.Kept.{kept, without_closing};
+ghost use Rattle.poly_exact.specs.Built.{AreFlags, IsAccepted, IsBad, IsFaultOf, IsFirstLarge};
 
-use crate::{Point, Simplicity, check, is_west, next_index};
+use crate::{Point, Simplicity, check, is_west};
 use std::alloc::{AllocError, Global};
 use std::marker::Model;
 
-/// Why a list of points is no ring.
+/// No memory was left.
+#[derive(Clone, Copy, Debug, PartialEq, Eq)]
+pub struct Memory;
+
+/// Why a list of points is refused.
 #[derive(Clone, Copy, Debug, PartialEq, Eq)]
 pub enum RingFault {
-    /// These two edges are the first that meet otherwise than neighbours do.
-    NotSimple { e: usize, f: usize },
+    /// Fewer than 3 vertices are left.
+    Few,
+    /// The point with this number is the first that has a coordinate out of the limits.
+    Coordinate { k: u32 },
+    /// These two edges are the first pair that meets otherwise than two neighbours do at their one common vertex.
+    NotSimple { e: u32, f: u32 },
+    /// More than 256 vertices are left.
+    ManyVertices,
     /// No memory was left.
     Memory,
 }
 
-/// A simple ring of 3 to 256 vertices within the limits, and of each edge whether its left side is in the ring.
+/// A simple ring of 3 to 256 vertices within the limits, and of each edge whether its west side is in the ring.
 #[derive(Drop)]
 pub struct Ring {
     vertices: Vec<Point>,
@@ -59,19 +68,27 @@ pub fn first_large(vs: &[Point]) -> Option<usize>
     None
 }
 
-/// Whether successive points differ.
-pub fn are_proper(vs: &[Point]) -> bool
-    ensures { IsTrue result → AreProper vs.now }
+/// Drops the last point, if it equals the first.
+fn drop_closing(vertices: &mut Vec<Point>)
+    ensures { vertices.new.items ≡ without_closing vertices.old.items }
 {
-    for k in 0..vs.len() {
-        if vs[k] == vs[next_index(vs, k)] {
-            return false;
-        }
+    let n = vertices.len();
+    if n > 1 && vertices[0] == vertices[n - 1] {
+        vertices.truncate(n - 1);
     }
-    true
 }
 
-/// Of each edge whether its left side is in the ring.
+/// The vertices that a list of points leaves: repeats and the closing point are dropped.
+fn kept_vertices(alloc: Global, points: &[Point]) -> Result<Vec<Point>, AllocError>
+    ensures { IfOk result (λ vs. vs.items ≡ kept points.now) }
+{
+    let mut vertices = points.to_vec(alloc)?;
+    vertices.dedup();
+    drop_closing(&mut vertices);
+    Ok(vertices)
+}
+
+/// Of each edge whether its west side is in the ring.
 pub fn lefts(vs: &[Point], alloc: Global) -> Result<Vec<bool>, AllocError>
     requires small { AreSmall vs.now }
     requires simple { IsSimple vs.now }
@@ -85,25 +102,57 @@ pub fn lefts(vs: &[Point], alloc: Global) -> Result<Vec<bool>, AllocError>
 }
 
 impl Ring {
+    /// The ring of these points.
+    pub fn new(alloc: Global, points: &[Point]) -> Result<Ring, RingFault>
+        requires { length points.now < 2 ^ 32 }
+        ensures ring { IfOk result (λ r. r ≡ kept points.now) }
+        ensures accepted { IfOk result (λ _. IsAccepted points.now) }
+        ensures fault { IfErr result (λ x. IsFaultOf x points.now) }
+    {
+        let vertices = kept_vertices(alloc, points).map_err(|_| RingFault::Memory)?;
+        if let Some(k) = first_large(points) {
+            return Err(RingFault::Coordinate { k: k as u32 });
+        }
+        if vertices.len() < 3 {
+            return Err(RingFault::Few);
+        }
+        if vertices.len() > 256 {
+            return Err(RingFault::ManyVertices);
+        }
+        Ring::close(vertices, alloc)
+    }
+
     /// The ring of vertices that were tested.
-    pub fn close(vertices: Vec<Point>, alloc: Global) -> Result<Ring, RingFault>
+    fn close(vertices: Vec<Point>, alloc: Global) -> Result<Ring, RingFault>
         requires small { AreSmall vertices.items }
         requires proper { AreProper vertices.items }
         requires few { 3 ≤ length vertices.items }
         requires many { length vertices.items ≤ 256 }
         ensures ring { IfOk result (λ r. r ≡ vertices.items) }
         ensures simple { IfOk result (λ r. IsSimple r) }
-        ensures fault { IfErr result (λ x. IsFault x vertices.items) }
+        ensures fault { IfErr result (λ x. IsBad x vertices.items) }
     {
         match check(&vertices) {
-            Simplicity::Meet { e, f } => Err(RingFault::NotSimple { e: e, f: f }),
+            Simplicity::Meet { e, f } => Err(RingFault::NotSimple { e: e as u32, f: f as u32 }),
             Simplicity::Simple => match lefts(&vertices, alloc) {
-                Ok(west) => Ok(Ring {
-                    vertices: vertices,
-                    west: west,
-                }),
+                Ok(west) => Ok(Ring { vertices, west }),
                 Err(_) => Err(RingFault::Memory),
             },
         }
+    }
+
+    /// The number of vertices.
+    pub fn len(&self) -> u32
+        ensures { result ≡ length self.now }
+    {
+        self.vertices.len() as u32
+    }
+
+    /// The vertex with this number.
+    pub fn vertex(&self, k: u32) -> Point
+        requires { k < length self.now }
+        ensures { result ≡ vertex self.now k }
+    {
+        self.vertices[k as usize]
     }
 }
