@@ -1,5 +1,5 @@
 -- In every box round every place of a simple ring are a place in the ring and one out of it; so some place is in the ring.
-use Rattle.std.proofs.Common.{◌≡◌, List, ap, arith}
+use Rattle.std.proofs.Common.{◌≡◌, ℕ, ◌<◌, List, length, ap, arith}
 use lib.IntN.{ℤ, pos, ◌+ℤ◌, ◌-ℤ◌, ◌*ℤ◌}
 use lib.Signed.{◌<ℤ◌, ◌≤ℤ◌}
 use borrow.Author.Differences.{ints}
@@ -9,6 +9,8 @@ use Rattle.poly_exact.specs.Rings.{vertex, next, IsOnRing, IsInRing, IsOutOfRing
 use Rattle.poly_exact.proofs.Whole.{weak, expand, polys, mul-le, nonneg-of-mul}
 use Rattle.poly_exact.proofs.Inner.{inner}
 use Rattle.poly_exact.proofs.Sides.{pair}
+use Rattle.poly_exact.proofs.VertexPlaces.{at, first_on}
+use Rattle.poly_exact.specs.Laws.{Around, Inside}
 
 composed : (n a b c mw pw xw : ℤ) → pos 0 <ℤ mw → pos 0 <ℤ pw → pos 0 <ℤ xw → c *ℤ mw ≡ a *ℤ xw +ℤ b *ℤ pw → ((n +ℤ n) *ℤ a) ≤ℤ (mw *ℤ pw) → ((n +ℤ n) *ℤ b) ≤ℤ (xw *ℤ mw) → (n *ℤ c) ≤ℤ (xw *ℤ pw)
 composed n a b c mw pw xw hm hp hx e f g =
@@ -36,17 +38,16 @@ IsNear-composed n x m p w h k = record {
   lower = composed n _ _ _ m.w p.w x.w h.weight k.weight w (split_left p.y p.w m.y m.w x.y x.w) k.lower h.lower;
 }
 
-pub record Around (vs : List Point) (x : Place) (n : ℤ) : Type 0 where
-  pub p : Place
-  pub q : Place
-  pub near_p : IsNear n x p
-  pub near_q : IsNear n x q
-  pub in_p : IsInRing vs p
-  pub out_q : IsOutOfRing vs q
-
 pub around : (vs : List Point) → IsSimple vs → (x : Place) (n : ℤ) → pos 0 <ℤ x.w → pos 0 <ℤ n → IsOnRing vs x → Around vs x n
 around vs s x n w h o =
     let hn : pos 0 <ℤ (n +ℤ n) = omega (arith, ints) in
     let i = inner (vertex vs o.edge) (vertex vs (next vs o.edge)) x (n +ℤ n) (s.proper o.edge o.below) w hn o.on in
     let t = pair vs s o.edge o.below i.m i.weight i.within (n +ℤ n) hn in
     record { p = t.p; q = t.q; near_p = IsNear-composed n x i.m t.p w i.near t.near_p; near_q = IsNear-composed n x i.m t.q w i.near t.near_q; in_p = t.in_p; out_q = t.out_q }
+
+pub inside : (vs : List Point) → IsSimple vs → 0 < length vs → Inside vs
+inside vs s some =
+    let one : pos 0 <ℤ pos 1 = omega (arith, ints) in
+    let on : IsOnRing vs (at (vertex vs 0)) = record { edge = 0; below = some; on = first_on (vertex vs 0) (vertex vs (next vs 0)) } in
+    let a = around vs s (at (vertex vs 0)) (pos 1) one one on in
+    record { place = a.p; weight = a.near_p.weight; within = a.in_p }

@@ -26,3 +26,5 @@ pub mod Covering
 pub mod Checked
 pub mod Built
 pub mod KeptVertices
+pub mod Blocks
+pub mod Rays

@@ -8,3 +8,5 @@ pub mod Met
 pub mod Checks
 pub mod Kept
 pub mod Built
+pub mod Prepared
+pub mod Laws

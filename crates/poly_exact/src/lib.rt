@@ -3,6 +3,7 @@
 
 mod checks;
 mod edges;
+mod laws;
 mod locations;
 mod points;
 mod rects;
@@ -12,7 +13,8 @@ pub use checks::{Simplicity, check, check_edge, is_good_pair, is_odd, is_west};
 pub use edges::{
     Ends, Meeting, are_apart, are_beyond, sides_of, meet, on_line, overlap, reach_at, compare_sides, turn_at,
 };
+pub use laws::laws_of_rings;
 pub use locations::{Location, RayHit, cast_ray, is_between, is_in_box, judge, locate};
 pub use points::{HalfPoint, Point, height, orient, products, turn};
-pub use rects::{Rect, bounding_rect, greater, grow, is_off, lesser, next_index};
-pub use rings::{Memory, Ring, RingFault, first_large, is_small, lefts};
+pub use rects::{BLOCK, Rect, block_rects, block_stop, bounding_rect, is_off, is_ray_off, next_index};
+pub use rings::{Memory, Ring, RingFault, first_large, is_small};

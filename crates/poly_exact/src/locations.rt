@@ -1,11 +1,13 @@
 //! Where a spot lies to a ring.
 
 ghost use Rattle.std.specs.Prelude.{◌≡◌, ◌<◌, ◌≤◌, length, IsTrue, ◌↔◌, ◌*ℤ◌, pos, true, ℕ, ℤ};
-ghost use Rattle.poly_exact.specs.Places.{IsBetween};
+ghost use Rattle.std.specs.Prelude.{IfNone, IfSome, ◌*◌};
+ghost use Rattle.poly_exact.specs.Rings.{IsOnRing};
+ghost use Rattle.poly_exact.specs.Rects.{AreBlocks, block_end};
 ghost use Rattle.poly_exact.specs.Small.{IsShort, IsSmall, IsSmallHalfPoint, place};
-ghost use Rattle.poly_exact.specs.Located.{IsRayHit, IsLocated, AreSmall, judged, is_within, is_boxed};
+ghost use Rattle.poly_exact.specs.Located.{IsRayHit, IsLocated, IsPassedBy, AreSmall, judged, is_within, is_boxed};
 
-use crate::{Point, HalfPoint, height, turn};
+use crate::{BLOCK, HalfPoint, Point, Rect, block_stop, height, is_ray_off, next_index, turn};
 
 /// How an edge lies to a spot.
 #[derive(Clone, Copy)]
@@ -87,19 +89,42 @@ pub fn cast_ray(a: Point, b: Point, p: HalfPoint) -> RayHit
     judge(t, first, second, rise, is_in_box(a, b, p))
 }
 
-/// Where the spot lies to the ring of the vertices.
-pub fn locate(vs: &[Point], p: HalfPoint) -> Location
+/// Casts the point's ray over the edges of one block. `start` is whether it crosses an odd number of the edges before.
+///
+/// Returns whether it crosses an odd number of edges so far, or `None` if the point lies on an edge of the block.
+fn cast_block(vs: &[Point], b: usize, p: HalfPoint, start: bool) -> Option<bool>
     requires vertices { AreSmall vs.now }
+    requires spot { IsSmallHalfPoint p }
+    requires block { b * BLOCK < length vs.now }
+    requires before { IsPassedBy vs.now (place p) (b * BLOCK) start }
+    ensures none { IfNone result (IsOnRing vs.now (place p)) }
+    ensures some { IfSome result (λ odd. IsPassedBy vs.now (place p) (block_end vs.now b) odd) }
+{
+    let mut odd = start;
+    for k in b * BLOCK..block_stop(vs, b) {
+        match cast_ray(vs[k], vs[next_index(vs, k)], p) {
+            RayHit::On => return None,
+            RayHit::Crosses => odd = !odd,
+            RayHit::Misses => {}
+        }
+    }
+    Some(odd)
+}
+
+/// Where the point lies to the ring of the vertices.
+pub fn locate(vs: &[Point], blocks: &[Rect], p: HalfPoint) -> Location
+    requires vertices { AreSmall vs.now }
+    requires blocks { AreBlocks blocks.now vs.now }
     requires spot { IsSmallHalfPoint p }
     ensures { IsLocated result vs.now (place p) }
 {
     let mut odd = false;
-    for k in 0..vs.len() {
-        let end = if k + 1 < vs.len() { k + 1 } else { 0 };
-        match cast_ray(vs[k], vs[end], p) {
-            RayHit::On => return Location::On,
-            RayHit::Crosses => odd = !odd,
-            RayHit::Misses => {}
+    for b in 0..blocks.len() {
+        if !is_ray_off(p, blocks[b]) {
+            match cast_block(vs, b, p, odd) {
+                Some(parity) => odd = parity,
+                None => return Location::On,
+            }
         }
     }
     if odd { Location::In } else { Location::Out }

@@ -1,11 +1,26 @@
-//! Rectangles round vertices.
+//! Rectangles round the edges of a ring, which tell at once that most edges are out of reach.
+//!
+//! The edges of a ring are cut into blocks of 16 in a row. Neighbours lie close together, so the rectangle round a
+//! block is small, and one comparison with it stands for 16 with the edges.
 
-ghost use Rattle.std.specs.Prelude.{◌≡◌, ℕ, ◌<◌, ◌≤◌, length, IsTrue};
-ghost use Rattle.std.specs.Prelude.{◌≤ℤ◌};
+ghost use Rattle.std.specs.Prelude.{◌≡◌, ℕ, ◌+◌, ◌*◌, ◌<◌, ◌≤◌, length, IsTrue, IfOk};
 ghost use Rattle.poly_exact.specs.Rings.{next};
-ghost use Rattle.poly_exact.specs.Rects.{CoversTo, IsOff};
+ghost use Rattle.poly_exact.specs.Small.{IsSmall, IsSmallHalfPoint};
+ghost use Rattle.poly_exact.specs.Located.{AreSmall};
+ghost use Rattle.poly_exact.specs.Rects.{AreBlocks, CoversAll, CoversEdges, IsOff, IsRayOff, block_end, grown};
 
-use crate::Point;
+use crate::{HalfPoint, Point};
+use std::alloc::{AllocError, Global};
+
+/// How many edges in a row share a rectangle.
+pub const BLOCK: usize = 16;
+
+/// A rectangle with sides along the axes.
+#[derive(Clone, Copy)]
+pub struct Rect {
+    pub low: Point,
+    pub high: Point,
+}
 
 /// The number of the next vertex.
 pub fn next_index(vs: &[Point], k: usize) -> usize
@@ -16,77 +31,91 @@ pub fn next_index(vs: &[Point], k: usize) -> usize
     if k + 1 < vs.len() { k + 1 } else { 0 }
 }
 
-/// The least box round a ring.
-#[derive(Clone, Copy)]
-pub struct Rect {
-    pub low: Point,
-    pub high: Point,
+/// The number of the edge before which block `b` ends.
+pub fn block_stop(vs: &[Point], b: usize) -> usize
+    requires { b * BLOCK < length vs.now }
+    ensures { result ≡ block_end vs.now b }
+{
+    (vs.len()).min(b * BLOCK + BLOCK)
 }
 
-/// The lesser number.
-pub fn lesser(u: i64, v: i64) -> i64
-    ensures first { result ≤ℤ u }
-    ensures second { result ≤ℤ v }
+/// The rectangle and one point more.
+fn grow(r: Rect, p: Point) -> Rect
+    requires low { IsSmall r.low }
+    requires high { IsSmall r.high }
+    requires point { IsSmall p }
+    ensures { result ≡ grown r p }
 {
-    if u < v { u } else { v }
-}
-
-/// The greater number.
-pub fn greater(u: i64, v: i64) -> i64
-    ensures first { u ≤ℤ result }
-    ensures second { v ≤ℤ result }
-{
-    if u < v { v } else { u }
-}
-
-/// The frame and one point more.
-pub fn grow(f: Rect, p: Point) -> Rect
-    ensures left { result.low.x ≤ℤ f.low.x }
-    ensures left_p { result.low.x ≤ℤ p.x }
-    ensures under { result.low.y ≤ℤ f.low.y }
-    ensures under_p { result.low.y ≤ℤ p.y }
-    ensures right { f.high.x ≤ℤ result.high.x }
-    ensures right_p { p.x ≤ℤ result.high.x }
-    ensures over { f.high.y ≤ℤ result.high.y }
-    ensures over_p { p.y ≤ℤ result.high.y }
-{
-    let left = lesser(f.low.x, p.x);
-    let under = lesser(f.low.y, p.y);
-    let right = greater(f.high.x, p.x);
-    let over = greater(f.high.y, p.y);
     Rect {
-        low: Point { x: left, y: under },
-        high: Point { x: right, y: over },
+        low: Point { x: r.low.x.min(p.x), y: r.low.y.min(p.y) },
+        high: Point { x: r.high.x.max(p.x), y: r.high.y.max(p.y) },
     }
 }
 
-/// The frame of a ring.
-pub fn bounding_rect(ws: &[Point]) -> Rect
-    requires some { 3 ≤ length ws.now }
-    ensures { CoversTo result ws.now (length ws.now) }
+/// The rectangle round the edges from number `from` to before `to`.
+fn edges_rect(vs: &[Point], from: usize, to: usize) -> Rect
+    requires small { AreSmall vs.now }
+    requires some { from < length vs.now }
+    requires many { to ≤ length vs.now }
+    ensures { CoversEdges result vs.now from to }
 {
-    let mut f = Rect {
-        low: ws[0],
-        high: ws[0],
-    };
-    for k in 0..ws.len() {
-        f = grow(f, ws[k]);
+    let mut rect = Rect { low: vs[from], high: vs[from] };
+    for e in from..to {
+        rect = grow(grow(rect, vs[e]), vs[next_index(vs, e)]);
     }
-    f
+    rect
 }
 
-/// Whether the edge is at one side of the frame.
-pub fn is_off(a: Point, b: Point, f: Rect) -> bool
-    ensures { IsTrue result → IsOff a b f }
+/// The rectangle round all vertices.
+pub fn bounding_rect(vs: &[Point]) -> Rect
+    requires small { AreSmall vs.now }
+    requires some { 3 ≤ length vs.now }
+    ensures { CoversAll result vs.now }
 {
-    if a.x < f.low.x && b.x < f.low.x {
+    edges_rect(vs, 0, vs.len())
+}
+
+/// The rectangles of all blocks.
+pub fn block_rects(alloc: Global, vs: &[Point]) -> Result<Vec<Rect>, AllocError>
+    requires small { AreSmall vs.now }
+    requires many { length vs.now ≤ 256 }
+    ensures { IfOk result (λ rs. AreBlocks rs.items vs.now) }
+{
+    let mut rects: Vec<Rect> = Vec::new(alloc);
+    for b in 0..(vs.len() + (BLOCK - 1)) / BLOCK {
+        rects.push(edges_rect(vs, b * BLOCK, block_stop(vs, b)))?;
+    }
+    Ok(rects)
+}
+
+/// Whether the edge from `a` to `b` lies beyond one of the rectangle's sides.
+pub fn is_off(a: Point, b: Point, r: Rect) -> bool
+    ensures { IsTrue result → IsOff a b r }
+{
+    if a.x < r.low.x && b.x < r.low.x {
         return true;
     }
-    if f.high.x < a.x && f.high.x < b.x {
+    if r.high.x < a.x && r.high.x < b.x {
         return true;
     }
-    if a.y < f.low.y && b.y < f.low.y {
+    if a.y < r.low.y && b.y < r.low.y {
         return true;
     }
-    f.high.y < a.y && f.high.y < b.y
+    r.high.y < a.y && r.high.y < b.y
+}
+
+/// Whether the point's ray to the right passes the rectangle.
+pub fn is_ray_off(p: HalfPoint, r: Rect) -> bool
+    requires spot { IsSmallHalfPoint p }
+    requires low { IsSmall r.low }
+    requires high { IsSmall r.high }
+    ensures { IsTrue result → IsRayOff p r }
+{
+    if p.y < r.low.y * 2 {
+        return true;
+    }
+    if r.high.y * 2 < p.y {
+        return true;
+    }
+    r.high.x * 2 < p.x
 }

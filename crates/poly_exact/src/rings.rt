@@ -6,11 +6,13 @@ ghost use Rattle.poly_exact.specs.declared.points.Point.{Point};
 ghost use Rattle.poly_exact.specs.Rings.{vertex, IsSimple};
 ghost use Rattle.poly_exact.specs.Located.{AreSmall};
 ghost use Rattle.poly_exact.specs.West.{IsRing};
+ghost use Rattle.poly_exact.specs.Prepared.{IsPrepared};
+ghost use Rattle.poly_exact.specs.Rects.{AreBlocks, CoversAll};
 ghost use Rattle.poly_exact.specs.Checks.{AreProper};
 ghost use Rattle.poly_exact.specs.Kept.{kept, without_closing};
 ghost use Rattle.poly_exact.specs.Built.{AreFlags, IsAccepted, IsBad, IsFaultOf, IsFirstLarge};
 
-use crate::{Point, Simplicity, check, is_west};
+use crate::{Point, Rect, Simplicity, block_rects, bounding_rect, check, is_west};
 use std::alloc::{AllocError, Global};
 use std::marker::Model;
 
@@ -33,11 +35,16 @@ pub enum RingFault {
     Memory,
 }
 
-/// A simple ring of 3 to 256 vertices within the limits, and of each edge whether its west side is in the ring.
+/// A simple ring of 3 to 256 vertices within the limits.
 #[derive(Drop)]
 pub struct Ring {
     vertices: Vec<Point>,
+    /// Of each edge whether its west side is in the ring.
     west: Vec<bool>,
+    /// The rectangle round all vertices.
+    rect: Rect,
+    /// The rectangles round the blocks of edges.
+    blocks: Vec<Rect>,
 }
 
 impl Model for Ring {
@@ -45,7 +52,7 @@ impl Model for Ring {
 
     ghost view = { λ r. r.vertices.items };
 
-    ghost invariant = { λ r. IsRing r.vertices.items r.west.items };
+    ghost invariant = { λ r. IsPrepared r.vertices.items r.west.items r.rect r.blocks.items };
 }
 
 /// Whether the point is within the limits.
@@ -89,7 +96,7 @@ fn kept_vertices(alloc: Global, points: &[Point]) -> Result<Vec<Point>, AllocErr
 }
 
 /// Of each edge whether its west side is in the ring.
-pub fn lefts(vs: &[Point], alloc: Global) -> Result<Vec<bool>, AllocError>
+fn west_sides(alloc: Global, vs: &[Point]) -> Result<Vec<bool>, AllocError>
     requires small { AreSmall vs.now }
     requires simple { IsSimple vs.now }
     ensures { IfOk result (λ w. AreFlags vs.now w.items (length vs.now)) }
@@ -134,10 +141,12 @@ impl Ring {
     {
         match check(&vertices) {
             Simplicity::Meet { e, f } => Err(RingFault::NotSimple { e: e as u32, f: f as u32 }),
-            Simplicity::Simple => match lefts(&vertices, alloc) {
-                Ok(west) => Ok(Ring { vertices, west }),
-                Err(_) => Err(RingFault::Memory),
-            },
+            Simplicity::Simple => {
+                let west = west_sides(alloc, &vertices).map_err(|_| RingFault::Memory)?;
+                let blocks = block_rects(alloc, &vertices).map_err(|_| RingFault::Memory)?;
+                let rect = bounding_rect(&vertices);
+                Ok(Ring { vertices, west, rect, blocks })
+            }
         }
     }
 
@@ -154,5 +163,33 @@ impl Ring {
         ensures { result ≡ vertex self.now k }
     {
         self.vertices[k as usize]
+    }
+
+    /// All vertices.
+    pub fn vertices(&self) -> &[Point]
+        ensures { result.now ≡ self.now }
+    {
+        &self.vertices
+    }
+
+    /// Of each edge whether its west side is in the ring.
+    pub fn west_sides(&self) -> &[bool]
+        ensures { IsRing self.now result.now }
+    {
+        &self.west
+    }
+
+    /// The rectangle round the ring.
+    pub fn rect(&self) -> Rect
+        ensures { CoversAll result self.now }
+    {
+        self.rect
+    }
+
+    /// The rectangles round the blocks of edges.
+    pub fn blocks(&self) -> &[Rect]
+        ensures { AreBlocks result.now self.now }
+    {
+        &self.blocks
     }
 }

@@ -1,5 +1,5 @@
 use Rattle.poly_exact.proofs.Built.{flags_none, flags_more, flags_end}
-use Rattle.poly_exact.proofs.rings.lefts.Goals as goal
+use Rattle.poly_exact.proofs.rings.west_sides.Goals as goal
 
 pub loop-e-init : goal.loop-e-init
 loop-e-init c = flags_none c.args.vs.now c.new-west.result.items c.new-west.ensures.items
