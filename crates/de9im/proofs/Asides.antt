@@ -9,13 +9,13 @@ use Rattle.poly_exact.specs.declared.points.Point.{Point}
 use Rattle.poly_exact.specs.declared.rects.Rect.{Rect}
 use Rattle.poly_exact.specs.Places.{Place, IsOnEdge}
 use Rattle.poly_exact.specs.Rings.{vertex, IsOutOfRing, IsInRing}
-use Rattle.poly_exact.specs.Rects.{CoversTo, IsOff}
+use Rattle.poly_exact.specs.Rects.{CoversAll, IsOff}
 use Rattle.de9im.specs.Cuts.{IsSight}
 use Rattle.poly_exact.proofs.Meets.{less_times}
 use Rattle.poly_exact.proofs.VertexPlaces.{at, first_on}
 use Rattle.poly_exact.proofs.Apart.{beyond_left, beyond_right, beyond_top, beyond_bottom}
 
-module _ (a b : Point) (ws : List Point) (f : Rect) (fr : CoversTo f ws (length ws)) (off : IsOff a b f) where
+module _ (a b : Point) (ws : List Point) (f : Rect) (fr : CoversAll f ws) (off : IsOff a b f) where
   all_out : (z : Place) → pos 0 <ℤ z.w → IsOnEdge a b z → IsOutOfRing ws z
   all_out z w o =
       let l = o.across.least in let g = o.across.greatest in

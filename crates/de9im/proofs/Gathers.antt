@@ -22,7 +22,7 @@ use Rattle.poly_exact.specs.Located.{IsLocated}
 use Rattle.poly_exact.specs.Met.{DoCross}
 use Rattle.de9im.specs.Scans.{EdgePair, IsSound, IsDone}
 use Rattle.de9im.specs.Cuts.{IsBoundary, IsAllUncrossed, seen}
-use Rattle.de9im.specs.Matrices.{IsEntry, IsBoundaryEntry, IsMatrix, AreViews, IsUnmetRing, given, gathered}
+use Rattle.de9im.specs.Matrices.{IsEntry, IsBoundaryEntry, IsMatrix, AreViews, IsTold, IsUnmetRing, given, gathered}
 use Rattle.poly_exact.proofs.RingLaw.{next-more}
 use Rattle.poly_exact.proofs.VertexPlaces.{at, first_on, second_on}
 use Rattle.de9im.proofs.Proper.{crossing_law}
@@ -126,6 +126,12 @@ module _ (f : Contacts) (vs ws : List Point) (sv : IsSimple vs) (sw : IsSimple w
 
   pub unmet_back : f.meets ≡ false → IsUnmetRing ws vs
   unmet_back n = record { none = λ z w o r. (unmet_ring n).none z w r o }
+
+  pub told : IsTold f vs ws
+  told = record { proper = λ t. (proper_views t).first; uncrossed = uncrossed; unmet = unmet_ring }
+
+  pub told_back : IsTold f ws vs
+  told_back = record { proper = λ t. (proper_views t).second; uncrossed = uncrossed_back; unmet = unmet_back }
 
   -- ---- the entries
 

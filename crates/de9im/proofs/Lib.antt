@@ -12,3 +12,5 @@ pub mod Samples
 pub mod Sights
 pub mod Gathers
 pub mod Asides
+pub mod BlockSkips
+pub mod Apartness

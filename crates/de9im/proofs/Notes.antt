@@ -16,7 +16,7 @@ use Rattle.poly_exact.specs.Met.{AreApart, IsMet, Crossing}
 use Rattle.poly_exact.specs.West.{IsWest, IsRing, flag}
 use Rattle.de9im.specs.Scans.{IsLevel, Stretch, noted, IsSound, IsFull, IsMore, IsEdgeDone, IsDone, IsEdgeUnderWay, IsUnderWay}
 use Rattle.poly_exact.specs.declared.rects.Rect.{Rect}
-use Rattle.poly_exact.specs.Rects.{Covers, IsGrown, CoversTo, IsOff}
+use Rattle.poly_exact.specs.Rects.{CoversAll, IsOff}
 use Rattle.poly_exact.proofs.Pieces.{next-below}
 use Rattle.poly_exact.proofs.Meets.{parted_crossing, apart_across, apart_along}
 use Rattle.poly_exact.proofs.Covering.{off_apart}
@@ -275,7 +275,7 @@ edge_skip vs ws west other rv rw' e f ne nf be bf p q start g x h =
 
 -- ---- the loop over the edges
 
-pub scan_skip : (vs ws : List Point) (e n : ℕ) → IsSimple vs → IsSimple ws → e < length vs → n ≡ next vs e → (g : Contacts) (f : Rect) → CoversTo f ws (length ws) → IsOff (vertex vs e) (vertex vs n) f → IsUnderWay g vs ws e → IsUnderWay g vs ws (e + 1)
+pub scan_skip : (vs ws : List Point) (e n : ℕ) → IsSimple vs → IsSimple ws → e < length vs → n ≡ next vs e → (g : Contacts) (f : Rect) → CoversAll f ws → IsOff (vertex vs e) (vertex vs n) f → IsUnderWay g vs ws e → IsUnderWay g vs ws (e + 1)
 scan_skip vs ws e n sv sw be en g f fr o h =
     let o' = subst (λ i. IsOff (vertex vs e) (vertex vs i) f) en o in
     record {

@@ -1,6 +1,7 @@
 -- The matrix of two rings: each entry says exactly what places there are.
-use Rattle.std.specs.Prelude.{◌≡◌, ◌⊎◌, pos, ◌<ℤ◌, List, Bool, cond, ◌||◌}
+use Rattle.std.specs.Prelude.{◌≡◌, ◌⊎◌, pos, ◌<ℤ◌, List, Bool, true, false, cond, ◌||◌}
 use Rattle.poly_exact.specs.declared.points.Point.{Point}
+use Rattle.poly_exact.specs.declared.rects.Rect.{Rect}
 use Rattle.de9im.specs.declared.scans.Contacts.{Contacts}
 use Rattle.de9im.specs.declared.matrices.Dim.{Dim}
 use Rattle.de9im.specs.declared.matrices.Dim.TheVariants as dim
@@ -11,7 +12,7 @@ use Rattle.poly_exact.specs.Rings.{IsOnRing, IsInRing, IsOutOfRing}
 use Rattle.de9im.specs.Matrix.{Common}
 use Rattle.poly_exact.specs.Met.{Shares}
 use Rattle.de9im.specs.Scans.{EdgePair}
-use Rattle.de9im.specs.Cuts.{IsBoundary}
+use Rattle.de9im.specs.Cuts.{IsBoundary, IsAllUncrossed}
 
 -- the entry is d exactly where there is such a thing, and F exactly where there is none
 abbrev pub IsEntry : Dim → Dim → Type 0 → Type 0
@@ -40,6 +41,16 @@ pub record AreViews (v : Views) (vs ws : List Point) : Type 0 where
 -- no place is on both
 pub record IsUnmetRing (vs ws : List Point) : Type 0 where
   pub none : (z : Place) → pos 0 <ℤ z.w → IsOnRing vs z → IsOnRing ws z → ⊥
+
+-- what a scan tells of the boundaries
+pub record IsTold (f : Contacts) (vs ws : List Point) : Type 0 where
+  pub proper : f.proper ≡ true → IsBoundary (record { inside = true; outside = true }) vs ws
+  pub uncrossed : f.proper ≡ false → IsAllUncrossed vs ws
+  pub unmet : f.meets ≡ false → IsUnmetRing vs ws
+
+-- one lies beyond a side of the other
+abbrev pub AreRectsApart : Rect → Rect → Type 0
+AreRectsApart r s = (r.high.x <ℤ s.low.x) ⊎ ((s.high.x <ℤ r.low.x) ⊎ ((r.high.y <ℤ s.low.y) ⊎ (s.high.y <ℤ r.low.y)))
 
 abbrev pub given : Bool → Dim → Dim
 given t d = cond t d dim.F

@@ -5,6 +5,4 @@ mod cuts;
 mod matrices;
 mod scans;
 
-pub use cuts::{Sight, boundary, edge_sight, edge_view, is_cut, is_nearer, join, next_cut, sample, see};
-pub use matrices::{Dim, Matrix, Views, gather, give, lone_view, look_around, relate};
-pub use scans::{Contacts, is_level, note, scan, scan_edge};
+pub use matrices::{Dim, Matrix, matrix_of};

@@ -1,24 +1,35 @@
-//! The matrix of two rings.
+//! The DE-9IM matrix of two rings.
+//!
+//! The entries of the boundaries come first. Where two edges cross properly, each boundary has points in and out of the
+//! other ring. Where no two edges meet, one vertex speaks for the whole ring. Else the edges are cut into pieces.
+//!
+//! The entries of the interiors follow. A point in both rings exists exactly where a boundary has a point in the other
+//! ring, or where the rings share a stretch of boundary and the inside of both lies at its west. The same holds of the
+//! points in one ring alone.
 
 ghost use Rattle.std.specs.Prelude.{◌≡◌, ℕ, ◌<◌, length, IsTrue};
-ghost use Rattle.poly_exact.specs.West.{IsRing};
-ghost use Rattle.de9im.specs.Scans.{IsSound, IsDone};
+ghost use Rattle.poly_exact.specs.Outlines.{IsOutline};
 ghost use Rattle.de9im.specs.Cuts.{IsBoundary};
-ghost use Rattle.de9im.specs.Matrices.{IsMatrix, AreViews, IsUnmetRing, given, gathered};
+ghost use Rattle.de9im.specs.Matrices.{IsMatrix, IsTold, IsUnmetRing, AreRectsApart, given, gathered};
 
-use crate::{Contacts, Sight, boundary, scan, see};
-use poly_exact::{HalfPoint, Location, Point, locate};
+use crate::cuts::{Sight, boundary, see};
+use crate::scans::{Contacts, scan};
+use poly_exact::{HalfPoint, Outline, Rect, Ring, locate};
 
-/// A dimension, or F where there is nothing.
+/// The dimension of a set of points: empty, points, curves or areas.
 #[derive(Clone, Copy, Debug, PartialEq, Eq)]
 pub enum Dim {
+    /// Empty.
     F,
+    /// Points alone.
     D0,
+    /// A curve.
     D1,
+    /// An area.
     D2,
 }
 
-/// The matrix: I the inside, B the boundary, E the outside, of the first ring and then of the second.
+/// The matrix: I the interior, B the boundary and E the exterior, of the first ring and then of the second.
 #[derive(Clone, Copy, Debug, PartialEq, Eq)]
 pub struct Matrix {
     pub ii: Dim,
@@ -40,70 +51,42 @@ pub struct Views {
 }
 
 /// What a ring that no edge of the other meets sees of it.
-pub fn lone_view(vs: &[Point], west: &[bool], ws: &[Point], other: &[bool]) -> Sight
-    requires one { IsRing vs.now west.now }
-    requires two { IsRing ws.now other.now }
-    requires apart { IsUnmetRing vs.now ws.now }
-    ensures { IsBoundary result vs.now ws.now }
+fn lone_view(a: Outline, b: Outline) -> Sight
+    requires one { IsOutline a }
+    requires two { IsOutline b }
+    requires apart { IsUnmetRing a.vertices.now b.vertices.now }
+    ensures { IsBoundary result a.entry.vertices.now b.entry.vertices.now }
 {
-    let first = vs[0];
-    let l = locate(
-        ws,
-        HalfPoint {
-            x: first.x * 2,
-            y: first.y * 2,
-        },
-    );
-    see(
-        Sight {
-            inside: false,
-            outside: false,
-        },
-        l,
-    )
+    let first = a.vertices[0];
+    let l = locate(b.vertices, b.blocks, HalfPoint { x: first.x * 2, y: first.y * 2 });
+    see(Sight { inside: false, outside: false }, l)
 }
 
-/// What the boundaries see.
-pub fn look_around(found: Contacts, vs: &[Point], west: &[bool], ws: &[Point], other: &[bool]) -> Views
-    requires one { IsRing vs.now west.now }
-    requires two { IsRing ws.now other.now }
-    requires sound { IsSound found vs.now ws.now }
-    requires done { IsDone found vs.now ws.now (length vs.now) }
-    ensures { AreViews result vs.now ws.now }
+/// What the boundary of the first ring sees of the second.
+fn view(found: Contacts, a: Outline, b: Outline) -> Sight
+    requires one { IsOutline a }
+    requires two { IsOutline b }
+    requires told { IsTold found a.vertices.now b.vertices.now }
+    ensures { IsBoundary result a.entry.vertices.now b.entry.vertices.now }
 {
     if found.proper {
-        Views {
-            first: Sight {
-                inside: true,
-                outside: true,
-            },
-            second: Sight {
-                inside: true,
-                outside: true,
-            },
-        }
+        Sight { inside: true, outside: true }
     } else if found.meets {
-        Views {
-            first: boundary(vs, west, ws, other),
-            second: boundary(ws, other, vs, west),
-        }
+        boundary(a, b)
     } else {
-        Views {
-            first: lone_view(vs, west, ws, other),
-            second: lone_view(ws, other, vs, west),
-        }
+        lone_view(a, b)
     }
 }
 
 /// The dimension, where the test holds.
-pub fn give(test: bool, d: Dim) -> Dim
+fn give(test: bool, d: Dim) -> Dim
     ensures { result ≡ given test d }
 {
     if test { d } else { Dim::F }
 }
 
 /// The matrix of what was found.
-pub fn gather(found: Contacts, v: Views) -> Matrix
+fn gather(found: Contacts, v: Views) -> Matrix
     ensures { result ≡ gathered found v }
 {
     Matrix {
@@ -111,11 +94,7 @@ pub fn gather(found: Contacts, v: Views) -> Matrix
         ib: give(v.second.inside, Dim::D1),
         ie: give(v.first.outside || (v.second.inside || found.ie), Dim::D2),
         bi: give(v.first.inside, Dim::D1),
-        bb: if found.stretch {
-            Dim::D1
-        } else {
-            give(found.meets, Dim::D0)
-        },
+        bb: if found.stretch { Dim::D1 } else { give(found.meets, Dim::D0) },
         be: give(v.first.outside, Dim::D1),
         ei: give(v.second.outside || (v.first.inside || found.ei), Dim::D2),
         eb: give(v.second.outside, Dim::D1),
@@ -123,12 +102,50 @@ pub fn gather(found: Contacts, v: Views) -> Matrix
     }
 }
 
-/// The matrix of two rings.
-pub fn relate(vs: &[Point], west: &[bool], ws: &[Point], other: &[bool]) -> Matrix
-    requires one { IsRing vs.now west.now }
-    requires two { IsRing ws.now other.now }
-    ensures { IsMatrix result vs.now ws.now }
+/// Whether the rectangles have no point in common.
+fn are_rects_apart(r: Rect, s: Rect) -> bool
+    ensures { IsTrue result → AreRectsApart r s }
 {
-    let found = scan(vs, west, ws, other);
-    gather(found, look_around(found, vs, west, ws, other))
+    if r.high.x < s.low.x {
+        return true;
+    }
+    if s.high.x < r.low.x {
+        return true;
+    }
+    if r.high.y < s.low.y {
+        return true;
+    }
+    s.high.y < r.low.y
+}
+
+/// The matrix of two rings whose rectangles may meet.
+fn relate(a: Outline, b: Outline) -> Matrix
+    requires one { IsOutline a }
+    requires two { IsOutline b }
+    ensures { IsMatrix result a.entry.vertices.now b.entry.vertices.now }
+{
+    let found = scan(a, b);
+    gather(found, Views { first: view(found, a, b), second: view(found, b, a) })
+}
+
+/// The matrix of two rings without a common point, neither in the other.
+const APART: Matrix = Matrix {
+    ii: Dim::F,
+    ib: Dim::F,
+    ie: Dim::D2,
+    bi: Dim::F,
+    bb: Dim::F,
+    be: Dim::D1,
+    ei: Dim::D2,
+    eb: Dim::D1,
+    ee: Dim::D2,
+};
+
+/// The DE-9IM matrix of the areas that two rings bound.
+pub fn matrix_of(a: &Ring, b: &Ring) -> Matrix
+    ensures { IsMatrix result a.now b.now }
+{
+    let one = a.outline();
+    let two = b.outline();
+    if are_rects_apart(one.rect, two.rect) { APART } else { relate(one, two) }
 }

@@ -141,6 +141,13 @@ read_spot a b h k l m =
     let g : FitsSigned w64 b = omega (arith, ints) in
     (λ i. to_z w64 (of_z w64 (read a f i +ℤ read b g i))) ∙ read (a +ℤ b) (omega (arith, ints))
 
+pub fits_spot : (a b : ℤ) → neg_ℤ (pos 100000000) ≤ℤ a → a ≤ℤ pos 100000000 → neg_ℤ (pos 100000000) ≤ℤ b → b ≤ℤ pos 100000000 → FitsSigned w64 (to_z w64 (of_z w64 a) +ℤ to_z w64 (of_z w64 b))
+fits_spot a b h k l m =
+    let f : FitsSigned w64 a = omega (arith, ints) in
+    let g : FitsSigned w64 b = omega (arith, ints) in
+    let s : FitsSigned w64 (a +ℤ b) = omega (arith, ints) in
+    rw (read a f, read b g) s
+
 pub small_spot : (a b : Point) (x y : ℤ) → IsSmall a → IsSmall b → x ≡ a.x +ℤ b.x → y ≡ a.y +ℤ b.y → IsSmallHalfPoint (record { x = x; y = y })
 small_spot a b x y h k e f = record { left = omega (arith, ints); right = omega (arith, ints); low = omega (arith, ints); high = omega (arith, ints) }
 

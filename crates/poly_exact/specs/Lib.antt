@@ -9,4 +9,5 @@ pub mod Checks
 pub mod Kept
 pub mod Built
 pub mod Prepared
+pub mod Outlines
 pub mod Laws

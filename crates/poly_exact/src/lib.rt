@@ -17,4 +17,4 @@ pub use laws::laws_of_rings;
 pub use locations::{Location, RayHit, cast_ray, is_between, is_in_box, judge, locate};
 pub use points::{HalfPoint, Point, height, orient, products, turn};
 pub use rects::{BLOCK, Rect, block_rects, block_stop, bounding_rect, is_off, is_ray_off, next_index};
-pub use rings::{Memory, Ring, RingFault, first_large, is_small};
+pub use rings::{Memory, Outline, Ring, RingFault, first_large, is_small};

@@ -5,9 +5,8 @@ ghost use Rattle.poly_exact.specs.Small.{IsSmall};
 ghost use Rattle.poly_exact.specs.declared.points.Point.{Point};
 ghost use Rattle.poly_exact.specs.Rings.{vertex, IsSimple};
 ghost use Rattle.poly_exact.specs.Located.{AreSmall};
-ghost use Rattle.poly_exact.specs.West.{IsRing};
 ghost use Rattle.poly_exact.specs.Prepared.{IsPrepared};
-ghost use Rattle.poly_exact.specs.Rects.{AreBlocks, CoversAll};
+ghost use Rattle.poly_exact.specs.Outlines.{IsOutline};
 ghost use Rattle.poly_exact.specs.Checks.{AreProper};
 ghost use Rattle.poly_exact.specs.Kept.{kept, without_closing};
 ghost use Rattle.poly_exact.specs.Built.{AreFlags, IsAccepted, IsBad, IsFaultOf, IsFirstLarge};
@@ -45,6 +44,18 @@ pub struct Ring {
     rect: Rect,
     /// The rectangles round the blocks of edges.
     blocks: Vec<Rect>,
+}
+
+/// A ring, borrowed, with all that was computed when it was made.
+#[derive(Clone, Copy)]
+pub struct Outline<'a> {
+    pub vertices: &'a [Point],
+    /// Of each edge whether its west side is in the ring.
+    pub west: &'a [bool],
+    /// The rectangle round all vertices.
+    pub rect: Rect,
+    /// The rectangles round the blocks of edges.
+    pub blocks: &'a [Rect],
 }
 
 impl Model for Ring {
@@ -165,31 +176,11 @@ impl Ring {
         self.vertices[k as usize]
     }
 
-    /// All vertices.
-    pub fn vertices(&self) -> &[Point]
-        ensures { result.now ≡ self.now }
+    /// What calls that compare rings read of this one.
+    pub fn outline(&self) -> Outline<'_>
+        ensures vertices { result.vertices.now ≡ self.now }
+        ensures outline { IsOutline result }
     {
-        &self.vertices
-    }
-
-    /// Of each edge whether its west side is in the ring.
-    pub fn west_sides(&self) -> &[bool]
-        ensures { IsRing self.now result.now }
-    {
-        &self.west
-    }
-
-    /// The rectangle round the ring.
-    pub fn rect(&self) -> Rect
-        ensures { CoversAll result self.now }
-    {
-        self.rect
-    }
-
-    /// The rectangles round the blocks of edges.
-    pub fn blocks(&self) -> &[Rect]
-        ensures { AreBlocks result.now self.now }
-    {
-        &self.blocks
+        Outline { vertices: &self.vertices, west: &self.west, rect: self.rect, blocks: &self.blocks }
     }
 }

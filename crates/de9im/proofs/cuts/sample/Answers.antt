@@ -1,6 +1,12 @@
-use Rattle.poly_exact.proofs.Sums.{read_spot, small_spot}
+use Rattle.poly_exact.proofs.Sums.{read_spot, small_spot, fits_spot}
 use Rattle.de9im.proofs.Samples.{sample_is}
 use Rattle.de9im.proofs.cuts.sample.Goals as goal
+
+pub overflow_add-from : goal.overflow_add-from
+overflow_add-from c = let s = c.requires.cut.small in let t = c.next_cut-end.ensures.small in fits_spot _ _ s.left s.right t.left t.right
+
+pub overflow_add-from-2 : goal.overflow_add-from-2
+overflow_add-from-2 c = let s = c.requires.cut.small in let t = c.next_cut-end.ensures.small in fits_spot _ _ s.low s.high t.low t.high
 
 pub locate-requires-clause-spot : goal.locate-requires-clause-spot
 locate-requires-clause-spot c =
@@ -10,5 +16,5 @@ locate-requires-clause-spot c =
 pub returns : goal.returns
 returns c =
     let r = c.requires in let s = r.cut.small in let t = c.next_cut-end.ensures.small in
-    sample_is c.args.a c.args.b c.args.from c.next_cut-end.result c.args.ws.now r.one r.simple r.cut c.next_cut-end.ensures r.uncrossed c.locate.result _
+    sample_is c.args.a c.args.b c.args.from c.next_cut-end.result c.args.ring.vertices.now r.one r.ring.ring.simple r.cut c.next_cut-end.ensures r.uncrossed c.locate.result _
     (read_spot _ _ s.left s.right t.left t.right) (read_spot _ _ s.low s.high t.low t.high) c.locate.ensures

@@ -5,11 +5,11 @@ use Rattle.de9im.proofs.matrices.lone_view.Goals as goal
 
 pub locate-l-requires-clause-spot : goal.locate-l-requires-clause-spot
 locate-l-requires-clause-spot c =
-    let s = c.requires.one.small.each 0 (some_of c.args.vs.now c.requires.one.few) in
-    twice_spot (vertex c.args.vs.now 0) _ _ s (read_twice _ s.left s.right) (read_twice _ s.low s.high)
+    let s = c.requires.one.ring.small.each 0 (some_of c.args.a.vertices.now c.requires.one.ring.few) in
+    twice_spot (vertex c.args.a.vertices.now 0) _ _ s (read_twice _ s.left s.right) (read_twice _ s.low s.high)
 
 pub returns : goal.returns
 returns c =
-    let h = some_of c.args.vs.now c.requires.one.few in
-    let s = c.requires.one.small.each 0 h in
-    lone_boundary c.args.vs.now c.args.ws.now h c.requires.apart _ (read_twice _ s.left s.right) (read_twice _ s.low s.high) c.locate-l.result c.see.result c.see.ensures c.locate-l.ensures
+    let h = some_of c.args.a.vertices.now c.requires.one.ring.few in
+    let s = c.requires.one.ring.small.each 0 h in
+    lone_boundary c.args.a.vertices.now c.args.b.vertices.now h c.requires.apart _ (read_twice _ s.left s.right) (read_twice _ s.low s.high) c.locate-l.result c.see.result c.see.ensures c.locate-l.ensures
