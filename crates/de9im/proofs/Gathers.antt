@@ -13,7 +13,7 @@ use Rattle.de9im.specs.declared.scans.Contacts.{Contacts}
 use Rattle.de9im.specs.declared.cuts.Sight.{Sight}
 use Rattle.de9im.specs.declared.matrices.Dim.{Dim}
 use Rattle.de9im.specs.declared.matrices.Dim.TheVariants as dim
-use Rattle.de9im.specs.declared.matrices.Views.{Views}
+use Rattle.de9im.specs.declared.relations.Views.{Views}
 use Rattle.poly_exact.specs.Places.{Place}
 use Rattle.poly_exact.specs.Rings.{vertex, next, crossings, IsOnRing, IsInRing, IsOutOfRing, IsSimple}
 use Rattle.de9im.specs.Matrix.{Common}

@@ -14,3 +14,4 @@ pub mod Gathers
 pub mod Asides
 pub mod BlockSkips
 pub mod Apartness
+pub mod PatternTexts

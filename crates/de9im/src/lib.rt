@@ -3,6 +3,10 @@
 
 mod cuts;
 mod matrices;
+mod patterns;
+mod relations;
 mod scans;
 
-pub use matrices::{Dim, Matrix, matrix_of};
+pub use matrices::{Dim, Matrix};
+pub use patterns::{BadPattern, Named, Pattern, Want, matches, predicate};
+pub use relations::matrix;

@@ -1,20 +1,10 @@
-//! The DE-9IM matrix of two rings.
-//!
-//! The entries of the boundaries come first. Where two edges cross properly, each boundary has points in and out of the
-//! other ring. Where no two edges meet, one vertex speaks for the whole ring. Else the edges are cut into pieces.
-//!
-//! The entries of the interiors follow. A point in both rings exists exactly where a boundary has a point in the other
-//! ring, or where the rings share a stretch of boundary and the inside of both lies at its west. The same holds of the
-//! points in one ring alone.
+//! The dimensions of the nine intersections.
 
-ghost use Rattle.std.specs.Prelude.{◌≡◌, ℕ, ◌<◌, length, IsTrue};
-ghost use Rattle.poly_exact.specs.Outlines.{IsOutline};
-ghost use Rattle.de9im.specs.Cuts.{IsBoundary};
-ghost use Rattle.de9im.specs.Matrices.{IsMatrix, IsTold, IsUnmetRing, AreRectsApart, given, gathered};
+ghost use Rattle.std.specs.Prelude.{◌≡◌, IfOk, string_bytes};
+ghost use Rattle.de9im.specs.Entries.{entries, dim_byte, matrix_text};
 
-use crate::cuts::{Sight, boundary, see};
-use crate::scans::{Contacts, scan};
-use poly_exact::{HalfPoint, Outline, Rect, Ring, locate};
+use poly_exact::Memory;
+use std::alloc::Global;
 
 /// The dimension of a set of points: empty, points, curves or areas.
 #[derive(Clone, Copy, Debug, PartialEq, Eq)]
@@ -43,109 +33,50 @@ pub struct Matrix {
     pub ee: Dim,
 }
 
-/// What the boundary of each ring sees of the other.
-#[derive(Clone, Copy)]
-pub struct Views {
-    pub first: Sight,
-    pub second: Sight,
-}
-
-/// What a ring that no edge of the other meets sees of it.
-fn lone_view(a: Outline, b: Outline) -> Sight
-    requires one { IsOutline a }
-    requires two { IsOutline b }
-    requires apart { IsUnmetRing a.vertices.now b.vertices.now }
-    ensures { IsBoundary result a.entry.vertices.now b.entry.vertices.now }
-{
-    let first = a.vertices[0];
-    let l = locate(b.vertices, b.blocks, HalfPoint { x: first.x * 2, y: first.y * 2 });
-    see(Sight { inside: false, outside: false }, l)
-}
-
-/// What the boundary of the first ring sees of the second.
-fn view(found: Contacts, a: Outline, b: Outline) -> Sight
-    requires one { IsOutline a }
-    requires two { IsOutline b }
-    requires told { IsTold found a.vertices.now b.vertices.now }
-    ensures { IsBoundary result a.entry.vertices.now b.entry.vertices.now }
-{
-    if found.proper {
-        Sight { inside: true, outside: true }
-    } else if found.meets {
-        boundary(a, b)
-    } else {
-        lone_view(a, b)
+impl Dim {
+    /// The character that stands for the dimension.
+    pub fn symbol(self) -> char
+        ensures { result ≡ dim_byte self }
+    {
+        match self {
+            Dim::F => 'F',
+            Dim::D0 => '0',
+            Dim::D1 => '1',
+            Dim::D2 => '2',
+        }
     }
 }
 
-/// The dimension, where the test holds.
-fn give(test: bool, d: Dim) -> Dim
-    ensures { result ≡ given test d }
-{
-    if test { d } else { Dim::F }
-}
-
-/// The matrix of what was found.
-fn gather(found: Contacts, v: Views) -> Matrix
-    ensures { result ≡ gathered found v }
-{
-    Matrix {
-        ii: give(v.first.inside || (v.second.inside || found.ii), Dim::D2),
-        ib: give(v.second.inside, Dim::D1),
-        ie: give(v.first.outside || (v.second.inside || found.ie), Dim::D2),
-        bi: give(v.first.inside, Dim::D1),
-        bb: if found.stretch { Dim::D1 } else { give(found.meets, Dim::D0) },
-        be: give(v.first.outside, Dim::D1),
-        ei: give(v.second.outside || (v.first.inside || found.ei), Dim::D2),
-        eb: give(v.second.outside, Dim::D1),
+impl Matrix {
+    /// The matrix of two rings without a common point, neither in the other.
+    pub(crate) const APART: Matrix = Matrix {
+        ii: Dim::F,
+        ib: Dim::F,
+        ie: Dim::D2,
+        bi: Dim::F,
+        bb: Dim::F,
+        be: Dim::D1,
+        ei: Dim::D2,
+        eb: Dim::D1,
         ee: Dim::D2,
-    }
-}
+    };
 
-/// Whether the rectangles have no point in common.
-fn are_rects_apart(r: Rect, s: Rect) -> bool
-    ensures { IsTrue result → AreRectsApart r s }
-{
-    if r.high.x < s.low.x {
-        return true;
+    /// The nine entries, row by row.
+    pub fn entries(&self) -> [Dim; 9]
+        ensures { result ≡ entries self.now }
+    {
+        [self.ii, self.ib, self.ie, self.bi, self.bb, self.be, self.ei, self.eb, self.ee]
     }
-    if s.high.x < r.low.x {
-        return true;
+
+    /// The nine characters of the entries, row by row.
+    pub fn text(&self, alloc: Global) -> Result<String, Memory>
+        ensures { IfOk result (λ s. string_bytes s ≡ matrix_text self.now) }
+    {
+        let entries = self.entries();
+        let mut text = String::new(alloc);
+        for k in 0..9 {
+            text.push(entries[k].symbol()).map_err(|_| Memory)?;
+        }
+        Ok(text)
     }
-    if r.high.y < s.low.y {
-        return true;
-    }
-    s.high.y < r.low.y
-}
-
-/// The matrix of two rings whose rectangles may meet.
-fn relate(a: Outline, b: Outline) -> Matrix
-    requires one { IsOutline a }
-    requires two { IsOutline b }
-    ensures { IsMatrix result a.entry.vertices.now b.entry.vertices.now }
-{
-    let found = scan(a, b);
-    gather(found, Views { first: view(found, a, b), second: view(found, b, a) })
-}
-
-/// The matrix of two rings without a common point, neither in the other.
-const APART: Matrix = Matrix {
-    ii: Dim::F,
-    ib: Dim::F,
-    ie: Dim::D2,
-    bi: Dim::F,
-    bb: Dim::F,
-    be: Dim::D1,
-    ei: Dim::D2,
-    eb: Dim::D1,
-    ee: Dim::D2,
-};
-
-/// The DE-9IM matrix of the areas that two rings bound.
-pub fn matrix_of(a: &Ring, b: &Ring) -> Matrix
-    ensures { IsMatrix result a.now b.now }
-{
-    let one = a.outline();
-    let two = b.outline();
-    if are_rects_apart(one.rect, two.rect) { APART } else { relate(one, two) }
 }

@@ -1,7 +1,7 @@
 use Rattle.poly_exact.specs.Rings.{vertex}
 use Rattle.poly_exact.proofs.Sums.{read_twice, twice_spot}
 use Rattle.de9im.proofs.Gathers.{lone_boundary, some_of}
-use Rattle.de9im.proofs.matrices.lone_view.Goals as goal
+use Rattle.de9im.proofs.relations.lone_view.Goals as goal
 
 pub locate-l-requires-clause-spot : goal.locate-l-requires-clause-spot
 locate-l-requires-clause-spot c =

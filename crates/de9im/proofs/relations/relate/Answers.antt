@@ -1,7 +1,7 @@
 use Rattle.std.proofs.Common.{subst, sym}
 use Rattle.de9im.specs.Matrices.{IsMatrix}
 use Rattle.de9im.proofs.Gathers.{gathered_is, told, told_back}
-use Rattle.de9im.proofs.matrices.relate.Goals as goal
+use Rattle.de9im.proofs.relations.relate.Goals as goal
 
 pub view-requires-clause-told : goal.view-requires-clause-told
 view-requires-clause-told c = let r = c.requires in let f = c.scan-found in told f.result c.args.a.vertices.now c.args.b.vertices.now r.one.ring.simple r.two.ring.simple f.ensures.sound f.ensures.done

@@ -4,7 +4,7 @@ use Rattle.de9im.specs.declared.matrices.Matrix.{Matrix}
 use Rattle.de9im.specs.Matrices.{IsMatrix}
 use Rattle.std.proofs.Common.{List}
 use Rattle.de9im.proofs.Apartness.{apart_is}
-use Rattle.de9im.proofs.matrices.matrix_of.Goals as goal
+use Rattle.de9im.proofs.relations.matrix.Goals as goal
 
 IsMatrix-same : (m : Matrix) (vs ws v w : List Point) → v ≡ vs → w ≡ ws → IsMatrix m v w → IsMatrix m vs ws
 IsMatrix-same m vs ws v w e f h = subst (λ x. IsMatrix m vs x) f (subst (λ x. IsMatrix m x w) e h)
