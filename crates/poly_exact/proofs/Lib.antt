@@ -28,3 +28,4 @@ pub mod Built
 pub mod KeptVertices
 pub mod Blocks
 pub mod Rays
+pub mod BlockChecks

@@ -4,6 +4,7 @@ use Rattle.poly_exact.specs.declared.points.Point.{Point}
 use Rattle.poly_exact.specs.declared.checks.Simplicity.{Simplicity}
 use Rattle.poly_exact.specs.declared.checks.Simplicity.TheVariants as simplicity
 use Rattle.poly_exact.specs.Places.{Place, IsOnEdge, bit}
+use Rattle.poly_exact.specs.Rects.{block_end}
 use Rattle.poly_exact.specs.Rings.{vertex, next, crossings, IsAt, IsSimple}
 
 -- successive vertices differ
@@ -44,6 +45,11 @@ IsChecked (simplicity.Meet e f) vs = IsFirstBad vs e f
 abbrev pub IsEdgeChecked : Simplicity → List Point → ℕ → Type 0
 IsEdgeChecked simplicity.Simple vs e = AreGoodTo vs e (length vs)
 IsEdgeChecked (simplicity.Meet i f) vs e = (i ≡ e) × IsBadOf vs e f
+
+-- with the later edges up to the end of block b
+abbrev pub IsBlockChecked : Simplicity → List Point → ℕ → ℕ → Type 0
+IsBlockChecked simplicity.Simple vs e b = AreGoodTo vs e (block_end vs b)
+IsBlockChecked (simplicity.Meet i f) vs e b = (i ≡ e) × IsBadOf vs e f
 
 -- the parity of the count of the first k edges
 pub record IsParity (vs : List Point) (p : Place) (k : ℕ) (odd : Bool) : Type 0 where

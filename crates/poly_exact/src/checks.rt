@@ -5,9 +5,11 @@ ghost use Rattle.poly_exact.specs.Small.{IsSmallHalfPoint, place};
 ghost use Rattle.poly_exact.specs.Rings.{IsSimple};
 ghost use Rattle.poly_exact.specs.Located.{AreSmall};
 ghost use Rattle.poly_exact.specs.West.{IsWest};
-ghost use Rattle.poly_exact.specs.Checks.{AreProper, IsGoodPair, IsChecked, IsEdgeChecked, IsParity};
+ghost use Rattle.std.specs.Prelude.{◌*◌};
+ghost use Rattle.poly_exact.specs.Rects.{AreBlocks, block_end};
+ghost use Rattle.poly_exact.specs.Checks.{AreGoodTo, AreProper, IsGoodPair, IsBlockChecked, IsChecked, IsEdgeChecked, IsParity};
 
-use crate::{HalfPoint, Meeting, Point, RayHit, cast_ray, meet, next_index};
+use crate::{BLOCK, HalfPoint, Meeting, Point, RayHit, Rect, block_stop, cast_ray, is_off, is_ray_off, meet, next_index};
 
 /// What two edges of a list of vertices tell.
 #[derive(Clone, Copy)]
@@ -19,7 +21,7 @@ pub enum Simplicity {
 }
 
 /// Whether two edges meet only where they next_index one another.
-pub fn is_good_pair(vs: &[Point], e: usize, f: usize) -> bool
+fn is_good_pair(vs: &[Point], e: usize, f: usize) -> bool
     requires small { AreSmall vs.now }
     requires proper { AreProper vs.now }
     requires order { e < f }
@@ -36,44 +38,69 @@ pub fn is_good_pair(vs: &[Point], e: usize, f: usize) -> bool
     }
 }
 
-/// Edge number `e` with all later ones.
-pub fn check_edge(vs: &[Point], e: usize) -> Simplicity
+/// Tests edge number `e` with the later edges of one block.
+fn check_block(vs: &[Point], e: usize, b: usize) -> Simplicity
     requires small { AreSmall vs.now }
     requires proper { AreProper vs.now }
+    requires block { b * BLOCK < length vs.now }
+    requires before { AreGoodTo vs.now e (b * BLOCK) }
+    ensures { IsBlockChecked result vs.now e b }
+{
+    for f in b * BLOCK..block_stop(vs, b) {
+        if e < f && !is_good_pair(vs, e, f) {
+            return Simplicity::Meet { e, f };
+        }
+    }
+    Simplicity::Simple
+}
+
+/// Tests edge number `e` with all later ones.
+fn check_edge(vs: &[Point], blocks: &[Rect], e: usize) -> Simplicity
+    requires small { AreSmall vs.now }
+    requires proper { AreProper vs.now }
+    requires blocks { AreBlocks blocks.now vs.now }
     requires below { e < length vs.now }
     ensures { IsEdgeChecked result vs.now e }
 {
-    for f in e + 1..vs.len() {
-        if !is_good_pair(vs, e, f) {
-            return Simplicity::Meet { e: e, f: f };
+    let p = vs[e];
+    let q = vs[next_index(vs, e)];
+    for b in e / BLOCK..blocks.len() {
+        if !is_off(p, q, blocks[b]) {
+            match check_block(vs, e, b) {
+                Simplicity::Simple => {}
+                Simplicity::Meet { e: _, f } => return Simplicity::Meet { e, f },
+            }
         }
     }
     Simplicity::Simple
 }
 
-/// All pairs of edges.
-pub fn check(vs: &[Point]) -> Simplicity
+/// Tests all pairs of edges.
+pub fn check(vs: &[Point], blocks: &[Rect]) -> Simplicity
     requires small { AreSmall vs.now }
     requires proper { AreProper vs.now }
+    requires blocks { AreBlocks blocks.now vs.now }
     ensures { IsChecked result vs.now }
 {
     for e in 0..vs.len() {
-        match check_edge(vs, e) {
+        match check_edge(vs, blocks, e) {
             Simplicity::Simple => {}
-            Simplicity::Meet { e: _, f } => return Simplicity::Meet { e: e, f: f },
+            Simplicity::Meet { e: _, f } => return Simplicity::Meet { e, f },
         }
     }
     Simplicity::Simple
 }
 
-/// Whether the count of edges at the spot is odd, also where the spot is on the ring.
-pub fn is_odd(vs: &[Point], p: HalfPoint) -> bool
+/// Whether the point's ray crosses an odd number of edges up to the end of the block. `start` is whether it does before.
+fn is_odd_after(vs: &[Point], b: usize, p: HalfPoint, start: bool) -> bool
     requires vertices { AreSmall vs.now }
     requires spot { IsSmallHalfPoint p }
-    ensures { IsParity vs.now (place p) (length vs.now) result }
+    requires block { b * BLOCK < length vs.now }
+    requires before { IsParity vs.now (place p) (b * BLOCK) start }
+    ensures { IsParity vs.now (place p) (block_end vs.now b) result }
 {
-    let mut odd = false;
-    for k in 0..vs.len() {
+    let mut odd = start;
+    for k in b * BLOCK..block_stop(vs, b) {
         match cast_ray(vs[k], vs[next_index(vs, k)], p) {
             RayHit::Crosses => odd = !odd,
             RayHit::On => {}
@@ -83,20 +110,31 @@ pub fn is_odd(vs: &[Point], p: HalfPoint) -> bool
     odd
 }
 
-/// Whether the left side of the edge is in the ring.
-pub fn is_west(vs: &[Point], e: usize) -> bool
+/// Whether the point's ray crosses an odd number of edges, also where the point is on the ring.
+fn is_odd(vs: &[Point], blocks: &[Rect], p: HalfPoint) -> bool
     requires vertices { AreSmall vs.now }
+    requires blocks { AreBlocks blocks.now vs.now }
+    requires spot { IsSmallHalfPoint p }
+    ensures { IsParity vs.now (place p) (length vs.now) result }
+{
+    let mut odd = false;
+    for b in 0..blocks.len() {
+        if !is_ray_off(p, blocks[b]) {
+            odd = is_odd_after(vs, b, p, odd);
+        }
+    }
+    odd
+}
+
+/// Whether the west side of the edge is in the ring.
+pub fn is_west(vs: &[Point], blocks: &[Rect], e: usize) -> bool
+    requires vertices { AreSmall vs.now }
+    requires blocks { AreBlocks blocks.now vs.now }
     requires simple { IsSimple vs.now }
     requires below { e < length vs.now }
     ensures { IsWest vs.now e result }
 {
     let a = vs[e];
     let b = vs[next_index(vs, e)];
-    !is_odd(
-        vs,
-        HalfPoint {
-            x: a.x + b.x,
-            y: a.y + b.y,
-        },
-    )
+    !is_odd(vs, blocks, HalfPoint { x: a.x + b.x, y: a.y + b.y })
 }

@@ -9,7 +9,7 @@ mod points;
 mod rects;
 mod rings;
 
-pub use checks::{Simplicity, check, check_edge, is_good_pair, is_odd, is_west};
+pub use checks::{Simplicity, check, is_west};
 pub use edges::{
     Ends, Meeting, are_apart, are_beyond, sides_of, meet, on_line, overlap, reach_at, compare_sides, turn_at,
 };

@@ -7,6 +7,7 @@ ghost use Rattle.poly_exact.specs.Rings.{vertex, IsSimple};
 ghost use Rattle.poly_exact.specs.Located.{AreSmall};
 ghost use Rattle.poly_exact.specs.Prepared.{IsPrepared};
 ghost use Rattle.poly_exact.specs.Outlines.{IsOutline};
+ghost use Rattle.poly_exact.specs.Rects.{AreBlocks};
 ghost use Rattle.poly_exact.specs.Checks.{AreProper};
 ghost use Rattle.poly_exact.specs.Kept.{kept, without_closing};
 ghost use Rattle.poly_exact.specs.Built.{AreFlags, IsAccepted, IsBad, IsFaultOf, IsFirstLarge};
@@ -107,14 +108,15 @@ fn kept_vertices(alloc: Global, points: &[Point]) -> Result<Vec<Point>, AllocErr
 }
 
 /// Of each edge whether its west side is in the ring.
-fn west_sides(alloc: Global, vs: &[Point]) -> Result<Vec<bool>, AllocError>
+fn west_sides(alloc: Global, vs: &[Point], blocks: &[Rect]) -> Result<Vec<bool>, AllocError>
     requires small { AreSmall vs.now }
+    requires blocks { AreBlocks blocks.now vs.now }
     requires simple { IsSimple vs.now }
     ensures { IfOk result (λ w. AreFlags vs.now w.items (length vs.now)) }
 {
     let mut west: Vec<bool> = Vec::new(alloc);
     for e in 0..vs.len() {
-        west.push(is_west(vs, e))?;
+        west.push(is_west(vs, blocks, e))?;
     }
     Ok(west)
 }
@@ -150,11 +152,11 @@ impl Ring {
         ensures simple { IfOk result (λ r. IsSimple r) }
         ensures fault { IfErr result (λ x. IsBad x vertices.items) }
     {
-        match check(&vertices) {
+        let blocks = block_rects(alloc, &vertices).map_err(|_| RingFault::Memory)?;
+        match check(&vertices, &blocks) {
             Simplicity::Meet { e, f } => Err(RingFault::NotSimple { e: e as u32, f: f as u32 }),
             Simplicity::Simple => {
-                let west = west_sides(alloc, &vertices).map_err(|_| RingFault::Memory)?;
-                let blocks = block_rects(alloc, &vertices).map_err(|_| RingFault::Memory)?;
+                let west = west_sides(alloc, &vertices, &blocks).map_err(|_| RingFault::Memory)?;
                 let rect = bounding_rect(&vertices);
                 Ok(Ring { vertices, west, rect, blocks })
             }
