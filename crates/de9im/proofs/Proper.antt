@@ -92,4 +92,3 @@ module _ (ps qs : List Point) (simple : IsSimple qs) (e f : ℕ) (be : e < lengt
         | inl t ↦ crossed qs simple f bf m w i (IsOnRing ps) a b o o t.0 t.1 (towards a o (first_on _ _)) (towards b o (second_on _ _))
         | inr t ↦ crossed qs simple f bf m w i (IsOnRing ps) b a o o t.1 t.0 (towards b o (second_on _ _)) (towards a o (first_on _ _))
       ]
-

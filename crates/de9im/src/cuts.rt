@@ -11,7 +11,10 @@ ghost use Rattle.poly_exact.specs.Rects.{block_end};
 ghost use Rattle.de9im.specs.Cuts.{IsCut, IsNearer, IsNextCut, IsNextTo, IsUncrossed, IsAllUncrossed, IsSample};
 ghost use Rattle.de9im.specs.Cuts.{IsSight, IsSightTo, IsBoundary, seen, joined};
 
-use poly_exact::{BLOCK, HalfPoint, Location, Outline, Point, block_stop, is_off, locate, next_index, reach_at, turn_at};
+use poly_exact::{
+    BLOCK, HalfPoint, Location, Outline, Point, block_stop, is_off, locate, next_index, reach_at,
+    turn_at,
+};
 
 /// Whether some point is in the other ring, and whether some point is out of it.
 #[derive(Clone, Copy)]
@@ -57,7 +60,14 @@ pub fn is_nearer(a: Point, b: Point, from: Point, best: Point, c: Point) -> bool
 }
 
 /// The nearest vertex on the edge beyond `from`, of `start` and those of one block.
-fn next_in_block(a: Point, b: Point, from: Point, ring: Outline, block: usize, start: Point) -> Point
+fn next_in_block(
+    a: Point,
+    b: Point,
+    from: Point,
+    ring: Outline,
+    block: usize,
+    start: Point,
+) -> Point
     requires first { IsSmall a }
     requires second { IsSmall b }
     requires cut { IsCut a b from }
@@ -105,7 +115,14 @@ pub fn sample(a: Point, b: Point, from: Point, ring: Outline) -> Location
     ensures { IsSample result a b from ring.entry.vertices.now }
 {
     let end = next_cut(a, b, from, ring);
-    locate(ring.vertices, ring.blocks, HalfPoint { x: from.x + end.x, y: from.y + end.y })
+    locate(
+        ring.vertices,
+        ring.blocks,
+        HalfPoint {
+            x: from.x + end.x,
+            y: from.y + end.y,
+        },
+    )
 }
 
 /// What is seen with one more point.
@@ -113,8 +130,14 @@ pub fn see(sight: Sight, l: Location) -> Sight
     ensures { result ≡ seen sight l }
 {
     match l {
-        Location::In => Sight { inside: true, ..sight },
-        Location::Out => Sight { outside: true, ..sight },
+        Location::In => Sight {
+            inside: true,
+            ..sight
+        },
+        Location::Out => Sight {
+            outside: true,
+            ..sight
+        },
         Location::On => sight,
     }
 }
@@ -159,7 +182,13 @@ pub fn edge_sight(a: Point, b: Point, ring: Outline) -> Sight
     requires uncrossed { IsUncrossed a b ring.vertices.now }
     ensures { IsSight result a b ring.entry.vertices.now }
 {
-    let mut sight = see(Sight { inside: false, outside: false }, sample(a, b, a, ring));
+    let mut sight = see(
+        Sight {
+            inside: false,
+            outside: false,
+        },
+        sample(a, b, a, ring),
+    );
     for block in 0..ring.blocks.len() {
         if !is_off(a, b, ring.blocks[block]) {
             sight = block_sight(a, b, ring, block, sight);
@@ -178,7 +207,10 @@ pub fn edge_view(a: Point, b: Point, ring: Outline) -> Sight
     ensures { IsSight result a b ring.entry.vertices.now }
 {
     if is_off(a, b, ring.rect) {
-        Sight { inside: false, outside: true }
+        Sight {
+            inside: false,
+            outside: true,
+        }
     } else {
         edge_sight(a, b, ring)
     }
@@ -192,7 +224,10 @@ pub fn boundary(a: Outline, b: Outline) -> Sight
     ensures { IsBoundary result a.entry.vertices.now b.entry.vertices.now }
 {
     let vs = a.vertices;
-    let mut sight = Sight { inside: false, outside: false };
+    let mut sight = Sight {
+        inside: false,
+        outside: false,
+    };
     for e in 0..vs.len() {
         sight = join(sight, edge_view(vs[e], vs[next_index(vs, e)], b));
     }

@@ -6,6 +6,8 @@ mod matrices;
 mod patterns;
 mod relations;
 mod scans;
+#[cfg(test)]
+mod tests;
 
 pub use matrices::{Dim, Matrix};
 pub use patterns::{BadPattern, Named, Pattern, Want, matches, predicate};

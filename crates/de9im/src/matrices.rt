@@ -65,7 +65,9 @@ impl Matrix {
     pub fn entries(&self) -> [Dim; 9]
         ensures { result ≡ entries self.now }
     {
-        [self.ii, self.ib, self.ie, self.bi, self.bb, self.be, self.ei, self.eb, self.ee]
+        [
+            self.ii, self.ib, self.ie, self.bi, self.bb, self.be, self.ei, self.eb, self.ee,
+        ]
     }
 
     /// The nine characters of the entries, row by row.

@@ -86,7 +86,11 @@ impl Pattern {
                 None => return Err(BadPattern { place: k as u32 }),
             }
         }
-        if text.len() > 9 { Err(BadPattern { place: 9 }) } else { Ok(Pattern { wants }) }
+        if text.len() > 9 {
+            Err(BadPattern { place: 9 })
+        } else {
+            Ok(Pattern { wants })
+        }
     }
 }
 
@@ -122,15 +126,23 @@ pub fn matches(m: &Matrix, p: &Pattern) -> bool
 }
 
 const F: Want = Want::Exactly(Dim::F);
+
 const T: Want = Want::NonEmpty;
+
 const X: Want = Want::Anything;
 
 const DISJOINT: [Want; 9] = [F, F, X, F, F, X, X, X, X];
+
 const TOUCHES_BY_SECOND: [Want; 9] = [F, T, X, X, X, X, X, X, X];
+
 const TOUCHES_BY_FIRST: [Want; 9] = [F, X, X, T, X, X, X, X, X];
+
 const TOUCHES_BY_BOTH: [Want; 9] = [F, X, X, X, T, X, X, X, X];
+
 const WITHIN: [Want; 9] = [T, X, F, X, X, F, X, X, X];
+
 const CONTAINS: [Want; 9] = [T, X, X, X, X, X, F, F, X];
+
 const OVERLAPS: [Want; 9] = [T, X, T, X, X, X, T, X, X];
 
 /// Whether the named predicate holds of two areas with this matrix.

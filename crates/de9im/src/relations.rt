@@ -12,9 +12,9 @@ ghost use Rattle.poly_exact.specs.Outlines.{IsOutline};
 ghost use Rattle.de9im.specs.Cuts.{IsBoundary};
 ghost use Rattle.de9im.specs.Matrices.{IsMatrix, IsTold, IsUnmetRing, AreRectsApart, given, gathered};
 
-use crate::{Dim, Matrix};
 use crate::cuts::{Sight, boundary, see};
 use crate::scans::{Contacts, scan};
+use crate::{Dim, Matrix};
 use poly_exact::{HalfPoint, Outline, Rect, Ring, locate};
 
 /// What the boundary of each ring sees of the other.
@@ -32,8 +32,21 @@ fn lone_view(a: Outline, b: Outline) -> Sight
     ensures { IsBoundary result a.entry.vertices.now b.entry.vertices.now }
 {
     let first = a.vertices[0];
-    let l = locate(b.vertices, b.blocks, HalfPoint { x: first.x * 2, y: first.y * 2 });
-    see(Sight { inside: false, outside: false }, l)
+    let l = locate(
+        b.vertices,
+        b.blocks,
+        HalfPoint {
+            x: first.x * 2,
+            y: first.y * 2,
+        },
+    );
+    see(
+        Sight {
+            inside: false,
+            outside: false,
+        },
+        l,
+    )
 }
 
 /// What the boundary of the first ring sees of the second.
@@ -44,7 +57,10 @@ fn view(found: Contacts, a: Outline, b: Outline) -> Sight
     ensures { IsBoundary result a.entry.vertices.now b.entry.vertices.now }
 {
     if found.proper {
-        Sight { inside: true, outside: true }
+        Sight {
+            inside: true,
+            outside: true,
+        }
     } else if found.meets {
         boundary(a, b)
     } else {
@@ -68,7 +84,11 @@ fn gather(found: Contacts, v: Views) -> Matrix
         ib: give(v.second.inside, Dim::D1),
         ie: give(v.first.outside || (v.second.inside || found.ie), Dim::D2),
         bi: give(v.first.inside, Dim::D1),
-        bb: if found.stretch { Dim::D1 } else { give(found.meets, Dim::D0) },
+        bb: if found.stretch {
+            Dim::D1
+        } else {
+            give(found.meets, Dim::D0)
+        },
         be: give(v.first.outside, Dim::D1),
         ei: give(v.second.outside || (v.first.inside || found.ei), Dim::D2),
         eb: give(v.second.outside, Dim::D1),
@@ -99,7 +119,13 @@ fn relate(a: Outline, b: Outline) -> Matrix
     ensures { IsMatrix result a.entry.vertices.now b.entry.vertices.now }
 {
     let found = scan(a, b);
-    gather(found, Views { first: view(found, a, b), second: view(found, b, a) })
+    gather(
+        found,
+        Views {
+            first: view(found, a, b),
+            second: view(found, b, a),
+        },
+    )
 }
 
 /// The DE-9IM matrix of the areas that two rings bound.
@@ -108,5 +134,9 @@ pub fn matrix(a: &Ring, b: &Ring) -> Matrix
 {
     let one = a.outline();
     let two = b.outline();
-    if are_rects_apart(one.rect, two.rect) { Matrix::APART } else { relate(one, two) }
+    if are_rects_apart(one.rect, two.rect) {
+        Matrix::APART
+    } else {
+        relate(one, two)
+    }
 }

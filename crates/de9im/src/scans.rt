@@ -46,8 +46,15 @@ pub fn note(found: Contacts, m: Meeting, level: bool, west: bool, other: bool) -
 {
     match m {
         Meeting::Apart => found,
-        Meeting::Touch => Contacts { meets: true, ..found },
-        Meeting::Proper => Contacts { meets: true, proper: true, ..found },
+        Meeting::Touch => Contacts {
+            meets: true,
+            ..found
+        },
+        Meeting::Proper => Contacts {
+            meets: true,
+            proper: true,
+            ..found
+        },
         Meeting::Stretch => Contacts {
             meets: true,
             stretch: true,
@@ -78,7 +85,13 @@ fn scan_block(start: Contacts, a: Outline, b: Outline, e: usize, block: usize) -
         let r = ws[f];
         let s = ws[next_index(ws, f)];
         if !are_apart(p, q, r, s) {
-            found = note(found, meet(p, q, r, s), is_level(p, q, r, s), a.west[e], b.west[f]);
+            found = note(
+                found,
+                meet(p, q, r, s),
+                is_level(p, q, r, s),
+                a.west[e],
+                b.west[f],
+            );
         }
     }
     found

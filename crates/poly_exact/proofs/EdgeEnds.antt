@@ -129,4 +129,3 @@ ends_apart a b c d m i t =
     let zero : x.s *ℤ turn c d (at a) +ℤ x.r *ℤ turn c d (at b) ≡ pos 0 =
     sym (turn-between c d x.s x.r (at a) (at b)) ∙ ap (turn c d) x.same ∙ scaled_turn x.l (d.x -ℤ c.x) (d.y -ℤ c.y) c.x c.y m.x m.y m.w ∙ rw t (*ℤ-zero x.l) in
     signs x.s x.r (turn c d (at a)) (turn c d (at b)) x.first x.second zero
-

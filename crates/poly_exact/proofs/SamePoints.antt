@@ -49,4 +49,3 @@ IsOnEdge-same a b p q h k e f o = record {
   across = same_range a.x b.x p.w q.w p.x q.x h k e o.across;
   along = same_range a.y b.y p.w q.w p.y q.y h k f o.along;
 }
-

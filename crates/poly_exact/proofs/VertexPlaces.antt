@@ -26,4 +26,3 @@ first_on a b = record { line = zero_at a.x a.y (b.y -ℤ a.y) (b.x -ℤ a.x); ac
 
 pub second_on : (a b : Point) → IsOnEdge a b (at b)
 second_on a b = IsOnEdge-turned b a (at b) (first_on b a)
-

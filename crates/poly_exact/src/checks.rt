@@ -1,4 +1,11 @@
-//! Whether a list of vertices is a simple ring.
+//! Whether a list of vertices is a simple ring, and on which side of each edge its inside lies.
+//!
+//! Two edges may meet only where one follows the other, at the vertex between them. The pairs are tested in order, so that
+//! the first bad one is found; blocks whose rectangle an edge lies off are left out.
+//!
+//! All points strictly inside an edge of a simple ring see the same parity of edges at their right, and points a little to
+//! the west of them see the other. So the west side of an edge is in the ring where the ray from its middle crosses an
+//! even number of edges, the edge itself not counted.
 
 ghost use Rattle.std.specs.Prelude.{◌≡◌, ℕ, ◌<◌, ◌≤◌, length, IsTrue, ◌↔◌};
 ghost use Rattle.poly_exact.specs.Small.{IsSmallHalfPoint, place};
@@ -9,7 +16,10 @@ ghost use Rattle.std.specs.Prelude.{◌*◌};
 ghost use Rattle.poly_exact.specs.Rects.{AreBlocks, block_end};
 ghost use Rattle.poly_exact.specs.Checks.{AreGoodTo, AreProper, IsGoodPair, IsBlockChecked, IsChecked, IsEdgeChecked, IsParity};
 
-use crate::{BLOCK, HalfPoint, Meeting, Point, RayHit, Rect, block_stop, cast_ray, is_off, is_ray_off, meet, next_index};
+use crate::edges::{Meeting, meet};
+use crate::locations::{RayHit, cast_ray};
+use crate::points::{HalfPoint, Point};
+use crate::rects::{BLOCK, Rect, block_stop, is_off, is_ray_off, next_index};
 
 /// What two edges of a list of vertices tell.
 #[derive(Clone, Copy)]
@@ -20,7 +30,7 @@ pub enum Simplicity {
     Meet { e: usize, f: usize },
 }
 
-/// Whether two edges meet only where they next_index one another.
+/// Whether two edges meet only where one follows the other, at the vertex between them.
 fn is_good_pair(vs: &[Point], e: usize, f: usize) -> bool
     requires small { AreSmall vs.now }
     requires proper { AreProper vs.now }
@@ -94,7 +104,7 @@ pub fn check(vs: &[Point], blocks: &[Rect]) -> Simplicity
 /// Whether the point's ray crosses an odd number of edges up to the end of the block. `start` is whether it does before.
 fn is_odd_after(vs: &[Point], b: usize, p: HalfPoint, start: bool) -> bool
     requires vertices { AreSmall vs.now }
-    requires spot { IsSmallHalfPoint p }
+    requires point { IsSmallHalfPoint p }
     requires block { b * BLOCK < length vs.now }
     requires before { IsParity vs.now (place p) (b * BLOCK) start }
     ensures { IsParity vs.now (place p) (block_end vs.now b) result }
@@ -114,7 +124,7 @@ fn is_odd_after(vs: &[Point], b: usize, p: HalfPoint, start: bool) -> bool
 fn is_odd(vs: &[Point], blocks: &[Rect], p: HalfPoint) -> bool
     requires vertices { AreSmall vs.now }
     requires blocks { AreBlocks blocks.now vs.now }
-    requires spot { IsSmallHalfPoint p }
+    requires point { IsSmallHalfPoint p }
     ensures { IsParity vs.now (place p) (length vs.now) result }
 {
     let mut odd = false;
@@ -136,5 +146,12 @@ pub fn is_west(vs: &[Point], blocks: &[Rect], e: usize) -> bool
 {
     let a = vs[e];
     let b = vs[next_index(vs, e)];
-    !is_odd(vs, blocks, HalfPoint { x: a.x + b.x, y: a.y + b.y })
+    !is_odd(
+        vs,
+        blocks,
+        HalfPoint {
+            x: a.x + b.x,
+            y: a.y + b.y,
+        },
+    )
 }

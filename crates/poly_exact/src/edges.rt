@@ -1,11 +1,16 @@
-//! How two edges meet.
+//! How two edges meet, by the signs of four turns.
+//!
+//! Where both ends of one edge lie strictly at one side of the other's line, the edges are apart. Where each has its ends
+//! strictly at the two sides of the other, they cross at one point strictly inside both, which need not be computed. Where
+//! an end lies on the other's line, they touch at one point or are apart. Where both edges lie on one line, four
+//! comparisons of how far the ends reach along it decide.
 
 ghost use Rattle.std.specs.Prelude.{◌≡◌, ◌≢◌, ℤ, pos, ◌<ℤ◌, ◌≤ℤ◌, IsTrue};
 ghost use Rattle.poly_exact.specs.Places as specs;
 ghost use Rattle.poly_exact.specs.Small.{IsSmall, IsShort, place_at};
 ghost use Rattle.poly_exact.specs.Met.{IsSorted, IsSided, AreBeyond, AreApart, IsOverlap, IsMet};
 
-use crate::{Point, products};
+use crate::points::{Point, products};
 
 /// How the ends of one edge lie to the line of another.
 #[derive(Clone, Copy)]
@@ -53,7 +58,7 @@ pub fn reach_at(a: Point, b: Point, c: Point) -> i64
     products(c.x - a.x, b.x - a.x, c.y - a.y, b.y - a.y)
 }
 
-/// The signs of two numbers together.
+/// How two points lie to a line, by the signs of their turns.
 pub fn compare_sides(t: i64, u: i64) -> Ends
     ensures { IsSorted result t u }
 {
@@ -90,7 +95,7 @@ pub fn are_beyond(u: i64, v: i64, s: i64, t: i64) -> bool
     }
 }
 
-/// Whether the boxes of two edges are apart.
+/// Whether the rectangles round two edges are apart.
 pub fn are_apart(a: Point, b: Point, c: Point, d: Point) -> bool
     requires first { IsSmall a }
     requires second { IsSmall b }

@@ -1,4 +1,7 @@
-//! Where a spot lies to a ring.
+//! Where a point lies to a ring, by casting a ray to the right.
+//!
+//! The point is in the ring where the ray crosses an odd number of edges (Shimrat 1962). Blocks of edges whose rectangle
+//! the ray passes are left out: it crosses none of their edges.
 
 ghost use Rattle.std.specs.Prelude.{◌≡◌, ◌<◌, ◌≤◌, length, IsTrue, ◌↔◌, ◌*ℤ◌, pos, true, ℕ, ℤ};
 ghost use Rattle.std.specs.Prelude.{IfNone, IfSome, ◌*◌};
@@ -7,24 +10,28 @@ ghost use Rattle.poly_exact.specs.Rects.{AreBlocks, block_end};
 ghost use Rattle.poly_exact.specs.Small.{IsShort, IsSmall, IsSmallHalfPoint, place};
 ghost use Rattle.poly_exact.specs.Located.{IsRayHit, IsLocated, IsPassedBy, AreSmall, judged, is_within, is_boxed};
 
-use crate::{BLOCK, HalfPoint, Point, Rect, block_stop, height, is_ray_off, next_index, turn};
+use crate::points::{HalfPoint, Point, height, turn};
+use crate::rects::{BLOCK, Rect, block_stop, is_ray_off, next_index};
 
-/// How an edge lies to a spot.
+/// How an edge lies to a point.
 #[derive(Clone, Copy)]
 pub enum RayHit {
-    /// The spot is on the edge.
+    /// The point is on the edge.
     On,
-    /// The edge crosses the spot's height at its right.
+    /// The edge crosses the ray from the point to the right.
     Crosses,
     /// Neither.
     Misses,
 }
 
-/// Where a spot lies to a ring.
-#[derive(Clone, Copy)]
+/// Where a point lies to a ring.
+#[derive(Clone, Copy, Debug, PartialEq, Eq)]
 pub enum Location {
+    /// In the ring.
     In,
+    /// On an edge.
     On,
+    /// Out of the ring.
     Out,
 }
 
@@ -41,7 +48,7 @@ pub fn is_between(u: i64, v: i64, z: i64) -> bool
     }
 }
 
-/// By the turn, the two heights, whether the edge rises, and whether the spot is within the edge's box.
+/// By the turn, the two heights, whether the edge rises, and whether the point is within the edge's rectangle.
 pub fn judge(t: i64, first: i64, second: i64, rise: bool, within: bool) -> RayHit
     ensures { result ≡ judged t first second rise within }
 {
@@ -64,22 +71,22 @@ pub fn judge(t: i64, first: i64, second: i64, rise: bool, within: bool) -> RayHi
     }
 }
 
-/// Whether the spot is within the box of the edge `a b`.
+/// Whether the point is within the rectangle round the edge `a b`.
 #[tactic(auto, using(crate::proofs::Judged::short_x, crate::proofs::Judged::short_y))]
 pub fn is_in_box(a: Point, b: Point, p: HalfPoint) -> bool
     requires first { IsSmall a }
     requires second { IsSmall b }
-    requires spot { IsSmallHalfPoint p }
+    requires point { IsSmallHalfPoint p }
     ensures { result ≡ is_boxed a b p }
 {
     is_between(a.x, b.x, p.x) && is_between(a.y, b.y, p.y)
 }
 
-/// How the edge `a b` lies to the spot.
+/// How the edge `a b` lies to the point.
 pub fn cast_ray(a: Point, b: Point, p: HalfPoint) -> RayHit
     requires first { IsSmall a }
     requires second { IsSmall b }
-    requires spot { IsSmallHalfPoint p }
+    requires point { IsSmallHalfPoint p }
     ensures { IsRayHit result a b (place p) }
 {
     let t = turn(a, b, p);
@@ -94,7 +101,7 @@ pub fn cast_ray(a: Point, b: Point, p: HalfPoint) -> RayHit
 /// Returns whether it crosses an odd number of edges so far, or `None` if the point lies on an edge of the block.
 fn cast_block(vs: &[Point], b: usize, p: HalfPoint, start: bool) -> Option<bool>
     requires vertices { AreSmall vs.now }
-    requires spot { IsSmallHalfPoint p }
+    requires point { IsSmallHalfPoint p }
     requires block { b * BLOCK < length vs.now }
     requires before { IsPassedBy vs.now (place p) (b * BLOCK) start }
     ensures none { IfNone result (IsOnRing vs.now (place p)) }
@@ -115,7 +122,7 @@ fn cast_block(vs: &[Point], b: usize, p: HalfPoint, start: bool) -> Option<bool>
 pub fn locate(vs: &[Point], blocks: &[Rect], p: HalfPoint) -> Location
     requires vertices { AreSmall vs.now }
     requires blocks { AreBlocks blocks.now vs.now }
-    requires spot { IsSmallHalfPoint p }
+    requires point { IsSmallHalfPoint p }
     ensures { IsLocated result vs.now (place p) }
 {
     let mut odd = false;

@@ -1,21 +1,31 @@
-//! Turns and heights.
+//! Points of whole numbers, and how they turn.
+//!
+//! Every product is of two differences of coordinates, so that all numbers fit 64 bits: coordinates go to 10^8, doubled
+//! ones to 2 * 10^8, and a sum of two products of differences to 1.6 * 10^17 at most.
 
 ghost use Rattle.std.specs.Prelude.{◌≡◌, ℤ, pos, neg_ℤ, ◌+ℤ◌, ◌-ℤ◌, ◌*ℤ◌, ◌<ℤ◌, ◌≤ℤ◌, int_lt, IsTrue};
 ghost use Rattle.poly_exact.specs.Places as specs;
 ghost use Rattle.poly_exact.specs.Small.{IsSmall, IsSmallHalfPoint, IsShort, place, place_at, sign_of};
 
-/// A vertex.
+/// A point with whole-number coordinates.
 #[derive(Clone, Copy, Debug, PartialEq, Eq)]
 pub struct Point {
     pub x: i64,
     pub y: i64,
 }
 
-/// The point `(x / 2, y / 2)`.
+/// The point `(x / 2, y / 2)`: the middle of two points, by the sum of their coordinates.
 #[derive(Clone, Copy, Debug, PartialEq, Eq)]
 pub struct HalfPoint {
     pub x: i64,
     pub y: i64,
+}
+
+/// The fraction `num / den`.
+#[derive(Clone, Copy, Debug)]
+pub struct Frac {
+    pub num: i128,
+    pub den: i128,
 }
 
 /// `a * b + c * d`.
@@ -29,26 +39,28 @@ pub fn products(a: i64, b: i64, c: i64, d: i64) -> i64
     a * b + c * d
 }
 
-/// Twice the turn from the edge `a b` to the spot: above 0 where the spot is at its left.
+/// Twice the turn from the edge `a b` to the point: above 0 where the point is at the edge's left.
 pub fn turn(a: Point, b: Point, p: HalfPoint) -> i64
     requires first { IsSmall a }
     requires second { IsSmall b }
-    requires spot { IsSmallHalfPoint p }
+    requires point { IsSmallHalfPoint p }
     ensures { result ≡ specs.turn a b (place p) }
 {
     products(a.x * 2 - p.x, b.y - a.y, p.y - a.y * 2, b.x - a.x)
 }
 
-/// How far the spot is above the vertex, twice.
+/// How far the point is above the vertex, doubled.
 pub fn height(a: Point, p: HalfPoint) -> i64
     requires vertex { IsSmall a }
-    requires spot { IsSmallHalfPoint p }
+    requires point { IsSmallHalfPoint p }
     ensures { result ≡ specs.above a (place p) }
 {
     p.y - a.y * 2
 }
 
-/// The sign of the turn from `a` by `b` to `c`.
+/// The turn from `a` by `b` to `c`: 1 to the left, -1 to the right, 0 where they lie on one line.
+///
+/// This is the sign of the cross product of `b - a` and `c - a`.
 pub fn orient(a: Point, b: Point, c: Point) -> i32
     requires first { IsSmall a }
     requires second { IsSmall b }

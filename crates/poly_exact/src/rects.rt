@@ -9,7 +9,7 @@ ghost use Rattle.poly_exact.specs.Small.{IsSmall, IsSmallHalfPoint};
 ghost use Rattle.poly_exact.specs.Located.{AreSmall};
 ghost use Rattle.poly_exact.specs.Rects.{AreBlocks, CoversAll, CoversEdges, IsOff, IsRayOff, block_end, grown};
 
-use crate::{HalfPoint, Point};
+use crate::points::{HalfPoint, Point};
 use std::alloc::{AllocError, Global};
 
 /// How many edges in a row share a rectangle.
@@ -36,7 +36,7 @@ pub fn block_stop(vs: &[Point], b: usize) -> usize
     requires { b * BLOCK < length vs.now }
     ensures { result ≡ block_end vs.now b }
 {
-    (vs.len()).min(b * BLOCK + BLOCK)
+    vs.len().min(b * BLOCK + BLOCK)
 }
 
 /// The rectangle and one point more.
@@ -47,8 +47,14 @@ fn grow(r: Rect, p: Point) -> Rect
     ensures { result ≡ grown r p }
 {
     Rect {
-        low: Point { x: r.low.x.min(p.x), y: r.low.y.min(p.y) },
-        high: Point { x: r.high.x.max(p.x), y: r.high.y.max(p.y) },
+        low: Point {
+            x: r.low.x.min(p.x),
+            y: r.low.y.min(p.y),
+        },
+        high: Point {
+            x: r.high.x.max(p.x),
+            y: r.high.y.max(p.y),
+        },
     }
 }
 
@@ -59,7 +65,10 @@ fn edges_rect(vs: &[Point], from: usize, to: usize) -> Rect
     requires many { to ≤ length vs.now }
     ensures { CoversEdges result vs.now from to }
 {
-    let mut rect = Rect { low: vs[from], high: vs[from] };
+    let mut rect = Rect {
+        low: vs[from],
+        high: vs[from],
+    };
     for e in from..to {
         rect = grow(grow(rect, vs[e]), vs[next_index(vs, e)]);
     }
@@ -106,7 +115,7 @@ pub fn is_off(a: Point, b: Point, r: Rect) -> bool
 
 /// Whether the point's ray to the right passes the rectangle.
 pub fn is_ray_off(p: HalfPoint, r: Rect) -> bool
-    requires spot { IsSmallHalfPoint p }
+    requires point { IsSmallHalfPoint p }
     requires low { IsSmall r.low }
     requires high { IsSmall r.high }
     ensures { IsTrue result → IsRayOff p r }

@@ -1,4 +1,4 @@
-//! Simple rings.
+//! Simple rings, made from points.
 
 ghost use Rattle.std.specs.Prelude.{◌≡◌, ℕ, ◌<◌, ◌≤◌, ◌^◌, length, IsTrue, ◌↔◌, List, IfErr, IfOk, IfNone, IfSome};
 ghost use Rattle.poly_exact.specs.Small.{IsSmall};
@@ -12,11 +12,13 @@ ghost use Rattle.poly_exact.specs.Checks.{AreProper};
 ghost use Rattle.poly_exact.specs.Kept.{kept, without_closing};
 ghost use Rattle.poly_exact.specs.Built.{AreFlags, IsAccepted, IsBad, IsFaultOf, IsFirstLarge};
 
-use crate::{Point, Rect, Simplicity, block_rects, bounding_rect, check, is_west};
+use crate::checks::{Simplicity, check, is_west};
+use crate::points::Point;
+use crate::rects::{Rect, block_rects, bounding_rect};
 use std::alloc::{AllocError, Global};
 use std::marker::Model;
 
-/// No memory was left.
+/// Out of memory.
 #[derive(Clone, Copy, Debug, PartialEq, Eq)]
 pub struct Memory;
 
@@ -31,7 +33,7 @@ pub enum RingFault {
     NotSimple { e: u32, f: u32 },
     /// More than 256 vertices are left.
     ManyVertices,
-    /// No memory was left.
+    /// Out of memory.
     Memory,
 }
 
@@ -122,7 +124,9 @@ fn west_sides(alloc: Global, vs: &[Point], blocks: &[Rect]) -> Result<Vec<bool>,
 }
 
 impl Ring {
-    /// The ring of these points.
+    /// The ring of these points, of which repeats and the closing point are dropped.
+    ///
+    /// Faults come in this order: a coordinate out of the limits, too few vertices left, too many, two edges that meet.
     pub fn new(alloc: Global, points: &[Point]) -> Result<Ring, RingFault>
         requires { length points.now < 2 ^ 32 }
         ensures ring { IfOk result (λ r. r ≡ kept points.now) }
@@ -154,11 +158,19 @@ impl Ring {
     {
         let blocks = block_rects(alloc, &vertices).map_err(|_| RingFault::Memory)?;
         match check(&vertices, &blocks) {
-            Simplicity::Meet { e, f } => Err(RingFault::NotSimple { e: e as u32, f: f as u32 }),
+            Simplicity::Meet { e, f } => Err(RingFault::NotSimple {
+                e: e as u32,
+                f: f as u32,
+            }),
             Simplicity::Simple => {
                 let west = west_sides(alloc, &vertices, &blocks).map_err(|_| RingFault::Memory)?;
                 let rect = bounding_rect(&vertices);
-                Ok(Ring { vertices, west, rect, blocks })
+                Ok(Ring {
+                    vertices,
+                    west,
+                    rect,
+                    blocks,
+                })
             }
         }
     }
@@ -183,6 +195,11 @@ impl Ring {
         ensures vertices { result.vertices.now ≡ self.now }
         ensures outline { IsOutline result }
     {
-        Outline { vertices: &self.vertices, west: &self.west, rect: self.rect, blocks: &self.blocks }
+        Outline {
+            vertices: &self.vertices,
+            west: &self.west,
+            rect: self.rect,
+            blocks: &self.blocks,
+        }
     }
 }

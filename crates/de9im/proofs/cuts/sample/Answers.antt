@@ -8,8 +8,8 @@ overflow_add-from c = let s = c.requires.cut.small in let t = c.next_cut-end.ens
 pub overflow_add-from-2 : goal.overflow_add-from-2
 overflow_add-from-2 c = let s = c.requires.cut.small in let t = c.next_cut-end.ensures.small in fits_spot _ _ s.low s.high t.low t.high
 
-pub locate-requires-clause-spot : goal.locate-requires-clause-spot
-locate-requires-clause-spot c =
+pub locate-requires-clause-point : goal.locate-requires-clause-point
+locate-requires-clause-point c =
     let s = c.requires.cut.small in let t = c.next_cut-end.ensures.small in
     small_spot c.args.from c.next_cut-end.result _ _ s t (read_spot _ _ s.left s.right t.left t.right) (read_spot _ _ s.low s.high t.low t.high)
 

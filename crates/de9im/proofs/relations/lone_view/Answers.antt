@@ -3,8 +3,8 @@ use Rattle.poly_exact.proofs.Sums.{read_twice, twice_spot}
 use Rattle.de9im.proofs.Gathers.{lone_boundary, some_of}
 use Rattle.de9im.proofs.relations.lone_view.Goals as goal
 
-pub locate-l-requires-clause-spot : goal.locate-l-requires-clause-spot
-locate-l-requires-clause-spot c =
+pub locate-l-requires-clause-point : goal.locate-l-requires-clause-point
+locate-l-requires-clause-point c =
     let s = c.requires.one.ring.small.each 0 (some_of c.args.a.vertices.now c.requires.one.ring.few) in
     twice_spot (vertex c.args.a.vertices.now 0) _ _ s (read_twice _ s.left s.right) (read_twice _ s.low s.high)
 
