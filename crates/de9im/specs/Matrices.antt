@@ -1,4 +1,5 @@
--- The matrix of two rings: each entry says exactly what places there are.
+-- The dimensionally extended nine-intersection matrix of two rings (Egenhofer and Franzosa 1991; Clementini, Di Felice and van Oosterom 1993;
+-- OGC 06-103r4): each entry says exactly which places there are.
 use Rattle.std.specs.Prelude.{◌≡◌, ◌⊎◌, pos, ◌<ℤ◌, List, Bool, true, false, cond, ◌||◌}
 use Rattle.poly_exact.specs.declared.points.Point.{Point}
 use Rattle.poly_exact.specs.declared.rects.Rect.{Rect}
@@ -23,6 +24,7 @@ abbrev pub IsBoundaryEntry : Dim → List Point → List Point → Type 0
 IsBoundaryEntry entry vs ws = ((entry ≡ dim.D1) × EdgePair vs ws Shares)
     ⊎ (((entry ≡ dim.D0) × ((EdgePair vs ws Shares → ⊥) × Common (IsOnRing vs) (IsOnRing ws))) ⊎ ((entry ≡ dim.F) × (Common (IsOnRing vs) (IsOnRing ws) → ⊥)))
 
+-- I is in the ring, B on it, E out of it: the first letter of an entry speaks of the first ring
 pub record IsMatrix (m : Matrix) (vs ws : List Point) : Type 0 where
   pub ii : IsEntry m.ii dim.D2 (Common (IsInRing vs) (IsInRing ws))
   pub ib : IsEntry m.ib dim.D1 (Common (IsInRing vs) (IsOnRing ws))

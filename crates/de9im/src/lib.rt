@@ -1,4 +1,8 @@
-//! The DE-9IM matrix of two simple rings.
+//! The DE-9IM matrix of the areas that two simple rings bound, its patterns and the named predicates (OGC 06-103r4).
+//!
+//! Every entry is exact: it says which of the nine intersections of interior, boundary and exterior have points, and of
+//! which dimension they are. Nothing is rounded, so that a needle's tip that crosses an edge by less than a double can
+//! tell is seen.
 #![tactic(auto)]
 
 mod cuts;

@@ -34,7 +34,7 @@ impl Model for Pattern {
 /// A text that is no pattern.
 #[derive(Clone, Copy, Debug, PartialEq, Eq)]
 pub struct BadPattern {
-    /// The first wrong byte, from 0; or, where the first nine bytes are right as far as there are any, how many they are.
+    /// The first wrong byte, from 0. Where the first nine bytes are right, as far as there are any, their number.
     pub place: u32,
 }
 

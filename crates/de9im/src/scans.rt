@@ -74,7 +74,8 @@ fn scan_block(start: Contacts, a: Outline, b: Outline, e: usize, block: usize) -
     requires block { block * BLOCK < length b.vertices.now }
     requires sound { IsSound start a.vertices.now b.vertices.now }
     requires done { IsEdgeDone start a.vertices.now b.vertices.now e (block * BLOCK) }
-    ensures { IsEdgeUnderWay start result a.entry.vertices.now b.entry.vertices.now e (block_end b.entry.vertices.now block) }
+    ensures { IsEdgeUnderWay start result a.entry.vertices.now b.entry.vertices.now e
+        (block_end b.entry.vertices.now block) }
 {
     let vs = a.vertices;
     let ws = b.vertices;

@@ -1,11 +1,11 @@
 -- In every box round every place of a simple ring are a place in the ring and one out of it; so some place is in the ring.
-use Rattle.std.proofs.Common.{◌≡◌, ℕ, ◌<◌, List, length, ap, arith}
+use Rattle.std.proofs.Common.{◌≡◌, ◌<◌, List, length, ap, arith}
 use lib.IntN.{ℤ, pos, ◌+ℤ◌, ◌-ℤ◌, ◌*ℤ◌}
 use lib.Signed.{◌<ℤ◌, ◌≤ℤ◌}
 use borrow.Author.Differences.{ints}
 use Rattle.poly_exact.specs.declared.points.Point.{Point}
 use Rattle.poly_exact.specs.Places.{Place, IsNear}
-use Rattle.poly_exact.specs.Rings.{vertex, next, IsOnRing, IsInRing, IsOutOfRing, IsSimple}
+use Rattle.poly_exact.specs.Rings.{vertex, next, IsOnRing, IsSimple}
 use Rattle.poly_exact.proofs.Whole.{weak, expand, polys, mul-le, nonneg-of-mul}
 use Rattle.poly_exact.proofs.Inner.{inner}
 use Rattle.poly_exact.proofs.Sides.{pair}

@@ -1,6 +1,5 @@
 -- Pairs of edges of one ring, block by block; parities, block by block.
-use Rattle.std.proofs.Common.{◌≡◌, refl, sym, subst, arith, inl, inr, ℕ, ◌+◌, ◌*◌, ◌/◌, ◌<◌, ◌≤◌, List, length, Bool}
-use Rattle.std.proofs.lemmas.Bool.{cases_lt}
+use Rattle.std.proofs.Common.{◌≡◌, refl, subst, arith, ℕ, ◌+◌, ◌/◌, ◌<◌, ◌≤◌, List, length, Bool}
 use Rattle.poly_exact.specs.declared.points.Point.{Point}
 use Rattle.poly_exact.specs.declared.points.HalfPoint.{HalfPoint}
 use Rattle.poly_exact.specs.declared.rects.Rect.{Rect}
@@ -8,7 +7,7 @@ use Rattle.poly_exact.specs.declared.rects.TheConstants.{BLOCK}
 use Rattle.poly_exact.specs.Small.{place}
 use Rattle.poly_exact.specs.Rings.{vertex, next}
 use Rattle.poly_exact.specs.Checks.{AreGoodTo, IsParity}
-use Rattle.poly_exact.specs.Rects.{AreBlocks, IsOff, IsRayOff, rect_at, block_start, block_end}
+use Rattle.poly_exact.specs.Rects.{AreBlocks, IsOff, IsRayOff, rect_at, block_start}
 use Rattle.poly_exact.proofs.Checked.{good_apart, good_more, parity_past}
 use Rattle.poly_exact.proofs.Covering.{off_apart}
 use Rattle.poly_exact.proofs.Rays.{IsPassed-ray}

@@ -1,5 +1,5 @@
 -- Loops over the blocks of a ring's edges: what holds of the first edges, block by block.
-use Rattle.std.proofs.Common.{◌≡◌, sym, subst, arith, ℕ, zero, suc, ◌+◌, ◌-◌, ◌*◌, ◌<◌, ◌≤◌, min, List, length}
+use Rattle.std.proofs.Common.{◌≡◌, subst, arith, ℕ, zero, suc, ◌+◌, ◌-◌, ◌*◌, ◌<◌, ◌≤◌, List, length}
 use Rattle.poly_exact.specs.declared.points.Point.{Point}
 use Rattle.poly_exact.specs.declared.rects.TheConstants.{BLOCK}
 use Rattle.poly_exact.specs.Rects.{block_start, block_end}

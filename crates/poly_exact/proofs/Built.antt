@@ -7,7 +7,7 @@ use lib.IntN.{ℤ}
 use Rattle.std.proofs.lemmas.Bool.{false≢true, cases_lt}
 use Rattle.std.proofs.lemmas.List.{get_or_push, get_or_append_left, length-append}
 use Rattle.poly_exact.specs.declared.points.Point.{Point}
-use Rattle.poly_exact.specs.Rings.{vertex, next}
+use Rattle.poly_exact.specs.Rings.{vertex}
 use Rattle.poly_exact.specs.Small.{IsSmall}
 use Rattle.poly_exact.specs.Located.{AreSmall}
 use Rattle.poly_exact.specs.West.{IsWest}

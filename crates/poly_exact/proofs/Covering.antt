@@ -2,7 +2,7 @@
 use Rattle.std.proofs.Common.{◌≡◌, refl, sym, ap, ◌∙◌, subst, arith, inl, inr, ℕ, ◌+◌, ◌*◌, ◌<◌, ◌≤◌, List, [], ◌∷◌, ◌++◌, length}
 use Rattle.std.proofs.Common.{w64, to_z, of_z, true}
 use lib.IntN.{ℤ, pos, ◌*ℤ◌}
-use lib.Signed.{◌<ℤ◌, ◌≤ℤ◌, lt_z}
+use lib.Signed.{lt_z}
 use borrow.Author.Differences.{ints}
 use Rattle.std.proofs.lemmas.Bool.{cases_lt}
 use Rattle.std.proofs.lemmas.Int.{clamps}
@@ -12,11 +12,10 @@ use Rattle.poly_exact.specs.declared.points.HalfPoint.{HalfPoint}
 use Rattle.poly_exact.specs.declared.rects.Rect.{Rect}
 use Rattle.poly_exact.specs.declared.rects.TheConstants.{BLOCK}
 use Rattle.poly_exact.specs.Rings.{vertex, next}
-use Rattle.poly_exact.specs.Places.{Place}
 use Rattle.poly_exact.specs.Small.{IsSmall, IsSmallHalfPoint}
 use Rattle.poly_exact.specs.Located.{AreSmall}
 use Rattle.poly_exact.specs.Met.{AreApart}
-use Rattle.poly_exact.specs.Rects.{Covers, grown, CoversEdges, CoversAll, AreBlocks, AreBlocksTo, IsOff, IsRayOff, rect_at, block_end}
+use Rattle.poly_exact.specs.Rects.{Covers, grown, CoversEdges, CoversAll, AreBlocks, AreBlocksTo, IsOff, IsRayOff, block_end}
 use Rattle.poly_exact.proofs.Meets.{apart_across, apart_along}
 use Rattle.poly_exact.proofs.Lines.{less_yes}
 use Rattle.poly_exact.proofs.Judged.{read_spot_x, read_spot_y}

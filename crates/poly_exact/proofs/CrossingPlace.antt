@@ -1,11 +1,9 @@
 -- The place where two edges cross, seen from both.
-use Rattle.std.proofs.Common.{◌≡◌, ◌≢◌, ℕ, ◌+◌, ◌%◌, ◌<◌, List, length, sym, ap, ◌∙◌, subst, arith, ◌⊎◌, inl, inr}
-use lib.IntN.{ℤ, pos, negsuc, ◌+ℤ◌, ◌-ℤ◌, ◌*ℤ◌, neg_ℤ, *ℤ_comm, *ℤ-zero, zero-*ℤ}
-use lib.Signed.{◌<ℤ◌, ◌≤ℤ◌}
+use Rattle.std.proofs.Common.{◌≡◌, ap, ◌∙◌, arith}
+use lib.IntN.{ℤ, pos, ◌+ℤ◌, ◌-ℤ◌, ◌*ℤ◌, neg_ℤ}
 use borrow.Author.Differences.{ints}
-use Rattle.std.proofs.lemmas.Int.{by_lt_z, clamps}
 use Rattle.poly_exact.specs.declared.points.Point.{Point}
-use Rattle.poly_exact.specs.Places.{Place, turn, between}
+use Rattle.poly_exact.specs.Places.{turn, between}
 use Rattle.poly_exact.proofs.Whole.{expand, polys}
 use Rattle.poly_exact.proofs.VertexPlaces.{at}
 

@@ -1,7 +1,7 @@
 -- A ray that passes the rectangle round a block crosses none of its edges.
-use Rattle.std.proofs.Common.{◌≡◌, refl, sym, ap, ◌∙◌, subst, arith, inl, inr, ℕ, ◌+◌, ◌*◌, ◌<◌, ◌≤◌, List, length, Bool, true, false}
-use lib.IntN.{pos, ◌*ℤ◌}
-use lib.Signed.{◌<ℤ◌, ◌≤ℤ◌}
+use Rattle.std.proofs.Common.{◌≡◌, refl, sym, ap, ◌∙◌, arith, inl, inr, ℕ, ◌+◌, ◌*◌, ◌<◌, ◌≤◌, List, length, Bool, true, false}
+use lib.IntN.{pos}
+use lib.Signed.{◌<ℤ◌}
 use borrow.Author.Differences.{ints}
 use Rattle.std.proofs.lemmas.Int.{clamps}
 use Rattle.poly_exact.specs.declared.points.Point.{Point}
@@ -10,9 +10,9 @@ use Rattle.poly_exact.specs.declared.rects.Rect.{Rect}
 use Rattle.poly_exact.specs.declared.rects.TheConstants.{BLOCK}
 use Rattle.poly_exact.specs.Places.{Place, IsOnEdge, is_under, counted, bit}
 use Rattle.poly_exact.specs.Small.{place}
-use Rattle.poly_exact.specs.Rings.{vertex, next, IsOnRing, IsInRing, IsOutOfRing}
+use Rattle.poly_exact.specs.Rings.{vertex, next, IsInRing, IsOutOfRing}
 use Rattle.poly_exact.specs.Located.{IsPassed, IsPassedBy}
-use Rattle.poly_exact.specs.Rects.{Covers, AreBlocks, IsRayOff, rect_at, block_start, block_end}
+use Rattle.poly_exact.specs.Rects.{Covers, AreBlocks, IsRayOff, rect_at, block_start}
 use Rattle.poly_exact.proofs.Apart.{count_right}
 use Rattle.poly_exact.proofs.Judged.{passed_miss}
 use Rattle.poly_exact.proofs.Blocks.{skip_block, last_block}

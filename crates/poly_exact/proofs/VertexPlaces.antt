@@ -1,12 +1,10 @@
 -- A vertex as a place, which lies on the edges that it ends.
-use Rattle.std.proofs.Common.{◌≡◌, ◌≢◌, ℕ, ◌+◌, ◌%◌, ◌<◌, List, length, sym, ap, ◌∙◌, subst, arith, ◌⊎◌, inl, inr}
-use lib.IntN.{ℤ, pos, negsuc, ◌+ℤ◌, ◌-ℤ◌, ◌*ℤ◌, neg_ℤ, *ℤ_comm, *ℤ-zero, zero-*ℤ}
-use lib.Signed.{◌<ℤ◌, ◌≤ℤ◌}
+use Rattle.std.proofs.Common.{◌≡◌, arith}
+use lib.IntN.{ℤ, pos, ◌+ℤ◌, ◌-ℤ◌, ◌*ℤ◌, zero-*ℤ}
 use borrow.Author.Differences.{ints}
-use Rattle.std.proofs.lemmas.Int.{by_lt_z, clamps}
+use Rattle.std.proofs.lemmas.Int.{clamps}
 use Rattle.poly_exact.specs.declared.points.Point.{Point}
 use Rattle.poly_exact.specs.Places.{Place, IsBetween, IsOnEdge}
-use Rattle.poly_exact.proofs.Whole.{expand, polys}
 use Rattle.poly_exact.proofs.Crossings.{IsOnEdge-turned}
 
 abbrev pub at : Point → Place

@@ -1,11 +1,11 @@
 -- What a ring is built from, and why a list of points is refused.
-use Rattle.std.specs.Prelude.{⊤, ◌≡◌, ◌≢◌, ℕ, ◌<◌, ◌≤◌, List, length, Bool}
+use Rattle.std.specs.Prelude.{⊤, ◌≡◌, ℕ, ◌<◌, ◌≤◌, List, length, Bool}
 use Rattle.poly_exact.specs.declared.points.Point.{Point}
 use Rattle.poly_exact.specs.declared.rings.RingFault.{RingFault}
 use Rattle.poly_exact.specs.declared.rings.RingFault.TheVariants as fault
 use Rattle.poly_exact.specs.Checks.{IsFirstBad}
 use Rattle.poly_exact.specs.Small.{IsSmall}
-use Rattle.poly_exact.specs.Rings.{vertex, next, IsSimple}
+use Rattle.poly_exact.specs.Rings.{vertex, IsSimple}
 use Rattle.poly_exact.specs.Located.{AreSmall}
 use Rattle.poly_exact.specs.West.{IsWest, flag}
 use Rattle.poly_exact.specs.Kept.{kept}

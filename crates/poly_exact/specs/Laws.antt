@@ -1,5 +1,5 @@
 -- What holds of the points round a ring.
-use Rattle.std.specs.Prelude.{ℕ, ◌<◌, ℤ, pos, ◌<ℤ◌, List, length}
+use Rattle.std.specs.Prelude.{◌<◌, ℤ, pos, ◌<ℤ◌, List, length}
 use Rattle.poly_exact.specs.declared.points.Point.{Point}
 use Rattle.poly_exact.specs.Places.{Place, IsNear, Near}
 use Rattle.poly_exact.specs.Rings.{IsOnRing, IsInRing, IsOutOfRing, IsSimple}

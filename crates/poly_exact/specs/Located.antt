@@ -1,4 +1,4 @@
--- Where a spot lies to an edge and to a ring.
+-- Where a point lies to an edge and to a ring, by the edges that its ray to the right crosses.
 use Rattle.std.specs.Prelude.{◌≡◌, ◌%◌, ℕ, ◌<◌, ℤ, pos, ◌*ℤ◌, List, length, Bool, false, cond, int_lt, int_le, ◌&&◌}
 use Rattle.poly_exact.specs.declared.points.Point.{Point}
 use Rattle.poly_exact.specs.declared.points.HalfPoint.{HalfPoint}
@@ -10,16 +10,18 @@ use Rattle.poly_exact.specs.Places.{Place, IsOnEdge, counted, bit}
 use Rattle.poly_exact.specs.Rings.{vertex, next, crossings, IsOnRing, IsInRing, IsOutOfRing}
 use Rattle.poly_exact.specs.Small.{IsSmall}
 
+-- the point is not on the edge, which is counted n times
 pub record IsPassed (a b : Point) (p : Place) (n : ℕ) : Type 0 where
   pub off : IsOnEdge a b p → ⊥
   pub counts : counted a b p ≡ n
 
+-- what casting a ray at one edge tells
 abbrev pub IsRayHit : RayHit → Point → Point → Place → Type 0
 IsRayHit hit.On a b p = IsOnEdge a b p
 IsRayHit hit.Crosses a b p = IsPassed a b p 1
 IsRayHit hit.Misses a b p = IsPassed a b p 0
 
--- by the turn, the two heights, whether the edge rises, and whether the spot is within the edge's box
+-- by the turn, the two heights, whether the edge rises, and whether the point is within the rectangle round the edge
 abbrev pub judged : ℤ → ℤ → ℤ → Bool → Bool → RayHit
 judged t first second rise within =
     cond (int_lt t (pos 0))
@@ -32,15 +34,17 @@ judged t first second rise within =
 abbrev pub is_within : ℤ → ℤ → ℤ → Bool
 is_within u v z = cond (int_le u v) (cond (int_le (u *ℤ pos 2) z) (int_le z (v *ℤ pos 2)) false) (cond (int_le (v *ℤ pos 2) z) (int_le z (u *ℤ pos 2)) false)
 
--- the spot is within the box of the edge
+-- the half point is within the rectangle round the edge
 abbrev pub is_boxed : Point → Point → HalfPoint → Bool
 is_boxed a b p = is_within a.x b.x p.x && is_within a.y b.y p.y
 
+-- where the point lies to the ring
 abbrev pub IsLocated : Location → List Point → Place → Type 0
 IsLocated location.In vs p = IsInRing vs p
 IsLocated location.On vs p = IsOnRing vs p
 IsLocated location.Out vs p = IsOutOfRing vs p
 
+-- all vertices are within the limits
 pub record AreSmall (vs : List Point) : Type 0 where
   pub each : (k : ℕ) → k < length vs → IsSmall (vertex vs k)
 

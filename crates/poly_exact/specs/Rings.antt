@@ -1,4 +1,5 @@
--- Rings: lists of vertices, the last of which is joined to the first. Where a place lies to a ring.
+-- Rings (the linear rings of OGC 06-103r4): lists of vertices, the last of which is joined to the first. Where a place lies to a ring,
+-- by the parity of the edges that a ray crosses (Shimrat 1962).
 use Rattle.std.specs.Prelude.{◌≢◌, ◌⊎◌, ◌*ℤ◌, ◌<ℤ◌, ◌≡◌, pos, ℕ, zero, suc, ◌+◌, ◌<◌, ◌%◌, cond, nat_lt, List, length, slice_index_or}
 use Rattle.poly_exact.specs.declared.points.Point.{Point}
 use Rattle.poly_exact.specs.Places.{Place, IsOnEdge, counted}
@@ -19,6 +20,7 @@ unfoldable pub crossings : List Point → Place → ℕ → ℕ
 crossings vs p zero = 0
 crossings vs p (suc k) = crossings vs p k + counted (vertex vs k) (vertex vs (next vs k)) p
 
+-- the place is on an edge
 pub record IsOnRing (vs : List Point) (p : Place) : Type 0 where
   pub edge : ℕ
   pub below : edge < length vs
@@ -28,10 +30,12 @@ pub record IsOnRing (vs : List Point) (p : Place) : Type 0 where
 abbrev pub IsOdd : List Point → Place → Type 0
 IsOdd vs p = crossings vs p (length vs) % 2 ≡ 1
 
+-- it is on none, and an odd number of edges is counted
 pub record IsInRing (vs : List Point) (p : Place) : Type 0 where
   pub off : IsOnRing vs p → ⊥
   pub odd : crossings vs p (length vs) % 2 ≡ 1
 
+-- it is on none, and an even number of edges is counted
 pub record IsOutOfRing (vs : List Point) (p : Place) : Type 0 where
   pub off : IsOnRing vs p → ⊥
   pub even : crossings vs p (length vs) % 2 ≡ 0

@@ -1,9 +1,10 @@
--- Vertices and spots within the limits, and what a spot stands for.
+-- Points within the limits, and the rational points that points and half points stand for.
 use Rattle.std.specs.Prelude.{ℤ, pos, negsuc, neg_ℤ, ◌≤ℤ◌, int_lt, cond}
 use Rattle.poly_exact.specs.declared.points.Point.{Point}
 use Rattle.poly_exact.specs.declared.points.HalfPoint.{HalfPoint}
 use Rattle.poly_exact.specs.Places.{Place}
 
+-- within four times the limits, as differences of coordinates and doubled ones are
 pub record IsShort (a : ℤ) : Type 0 where
   pub least : neg_ℤ (pos 400000000) ≤ℤ a
   pub greatest : a ≤ℤ pos 400000000

@@ -1,4 +1,3 @@
-use Rattle.std.proofs.Common.{◌+◌}
 use Rattle.poly_exact.specs.Checks.{AreGoodTo}
 use Rattle.poly_exact.proofs.Blocks.{in_block, after_block, last_block}
 use Rattle.poly_exact.proofs.BlockChecks.{good_start, good_skip}

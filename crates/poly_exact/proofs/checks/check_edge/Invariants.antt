@@ -1,4 +1,3 @@
-use Rattle.std.proofs.Common.{◌≤◌}
 use Rattle.poly_exact.specs.Checks.{AreGoodTo}
 use Rattle.poly_exact.specs.Rects.{block_start}
 use Rattle.poly_exact.proofs.checks.check_edge.Given as goal

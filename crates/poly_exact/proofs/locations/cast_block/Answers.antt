@@ -1,10 +1,8 @@
-use Rattle.std.proofs.Common.{◌+◌, ◌*◌, ◌≤◌, sym, ◌∙◌, subst, arith}
+use Rattle.std.proofs.Common.{◌+◌, sym, subst, arith}
 use Rattle.poly_exact.proofs.Judged.{passed_crossing, passed_miss}
 use Rattle.poly_exact.proofs.Blocks.{end_block}
 use Rattle.poly_exact.specs.Small.{place}
 use Rattle.poly_exact.specs.Located.{IsPassedBy}
-use Rattle.poly_exact.specs.declared.rects.TheConstants.{BLOCK}
-use Rattle.poly_exact.specs.Rects.{block_end}
 use Rattle.poly_exact.proofs.locations.cast_block.Goals as goal
 use Rattle.poly_exact.proofs.locations.cast_block.Goals.{in-Crosses, in-Misses}
 

@@ -1,4 +1,3 @@
-use Rattle.std.proofs.Common.{◌≡◌, subst, sym, ap}
 use Rattle.poly_exact.proofs.Covering.{blocks_more, covers_block}
 use Rattle.poly_exact.proofs.rects.block_rects.Goals as goal
 

@@ -1,4 +1,4 @@
-use Rattle.std.proofs.Common.{◌≡◌, ◌∙◌}
+use Rattle.std.proofs.Common.{◌∙◌}
 use Rattle.std.specs.Int.{int_min, int_max}
 use Rattle.poly_exact.proofs.Judged.{back, read_x, read_y}
 use Rattle.poly_exact.proofs.rects.grow.Goals as goal

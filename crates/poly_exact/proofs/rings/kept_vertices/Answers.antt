@@ -1,5 +1,5 @@
-use Rattle.std.proofs.Common.{◌≡◌, ap, ◌∙◌}
-use Rattle.poly_exact.specs.Kept.{same_point, without_closing, kept}
+use Rattle.std.proofs.Common.{ap, ◌∙◌}
+use Rattle.poly_exact.specs.Kept.{same_point, without_closing}
 use Rattle.std.proofs.lemmas.List.Filters.{dedup_is}
 use Rattle.std.specs.List.{dedup}
 use Rattle.poly_exact.proofs.rings.kept_vertices.Goals as goal

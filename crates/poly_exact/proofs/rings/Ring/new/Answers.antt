@@ -1,4 +1,4 @@
-use Rattle.std.proofs.Common.{◌≡◌, ◌≤◌, length, subst, sym, arith, rules}
+use Rattle.std.proofs.Common.{◌≡◌, ◌≤◌, length, subst, sym, rules}
 use Rattle.poly_exact.specs.Located.{AreSmall}
 use Rattle.poly_exact.specs.Checks.{AreProper}
 use Rattle.poly_exact.specs.Kept.{kept}
