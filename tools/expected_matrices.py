@@ -1,7 +1,7 @@
 #!/usr/bin/env python3
 """Computes the DE-9IM matrices that the tests of the crate de9im expect, by exact fractions.
 
-Usage: tools/expected_matrices.py          prints the rows of crates/de9im/src/tests.rt, twelve for each test
+Usage: tools/expected_matrices.py          prints the rows of crates/de9im/src/tests.rt
 
 The way is another than the crate's. The plane is cut at the heights of all vertices and all crossings; between two such
 heights the edges don't cross, so that a point in each gap between neighbouring edges speaks for the areas. Each edge is
@@ -191,12 +191,12 @@ def text(ring):
 
 
 def main():
-    rows = [(name, one, two) for name, one, two in LISTED + drawn(60)]
-    for k, (name, one, two) in enumerate(rows):
-        assert is_simple(one) and is_simple(two), name
-        if k % 12 == 0:
-            print(f"\n// rows {k} to {min(k + 12, len(rows)) - 1}")
-        print(f'        ("{name}", "{text(one)}", "{text(two)}", "{matrix(one, two)}"),')
+    for title, rows in (("LISTED", LISTED), ("DRAWN", drawn(60))):
+        print(f"const {title}: &str = \"\\")
+        for name, one, two in rows:
+            assert is_simple(one) and is_simple(two), name
+            print(f"{name} | {text(one)} | {text(two)} | {matrix(one, two)}")
+        print('";')
 
 
 if __name__ == "__main__":

@@ -1,12 +1,11 @@
 -- Rings whose rectangles are apart.
-use Rattle.std.proofs.Common.{◌≡◌, ℕ, ◌<◌, ◌≤◌, refl, List, length, arith, ◌⊎◌, inl, inr}
+use Rattle.std.proofs.Common.{◌≤◌, refl, List, length, arith, ◌⊎◌, inl, inr}
 use lib.IntN.{pos}
 use lib.Signed.{◌<ℤ◌}
-use borrow.Author.Differences.{ints}
 use Rattle.poly_exact.specs.declared.points.Point.{Point}
 use Rattle.poly_exact.specs.declared.rects.Rect.{Rect}
 use Rattle.poly_exact.specs.Places.{Place}
-use Rattle.poly_exact.specs.Rings.{vertex, IsOnRing, IsInRing, IsOutOfRing, IsSimple}
+use Rattle.poly_exact.specs.Rings.{IsInRing, IsOutOfRing, IsSimple}
 use Rattle.poly_exact.specs.Rects.{CoversAll}
 use Rattle.de9im.specs.declared.matrices.Dim.TheVariants as dim
 use Rattle.de9im.specs.declared.matrices.Matrix.{Matrix}

@@ -1,5 +1,5 @@
 -- An edge beside the other ring's frame sees the outside alone.
-use Rattle.std.proofs.Common.{refl, arith, inl, inr, List, length, true, false}
+use Rattle.std.proofs.Common.{refl, arith, inl, inr, List, true, false}
 use lib.IntN.{pos}
 use lib.Signed.{◌<ℤ◌}
 use borrow.Author.Differences.{ints}

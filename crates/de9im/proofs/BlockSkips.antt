@@ -1,15 +1,14 @@
 -- An edge that lies off the rectangle round a block meets none of its edges, and has none of its vertices.
-use Rattle.std.proofs.Common.{◌≡◌, ◌≢◌, refl, sym, subst, arith, ℕ, ◌+◌, ◌*◌, ◌<◌, ◌≤◌, List, length, Bool}
-use lib.IntN.{ℤ, pos, ◌*ℤ◌}
+use Rattle.std.proofs.Common.{◌≡◌, ◌≢◌, refl, arith, ℕ, ◌+◌, ◌<◌, List, length, Bool}
+use lib.IntN.{pos}
 use lib.Signed.{◌<ℤ◌, ◌≤ℤ◌}
 use borrow.Author.Differences.{ints}
 use Rattle.poly_exact.specs.declared.points.Point.{Point}
 use Rattle.poly_exact.specs.declared.rects.Rect.{Rect}
-use Rattle.poly_exact.specs.declared.rects.TheConstants.{BLOCK}
-use Rattle.poly_exact.specs.Places.{Place, turn, reach, IsOnEdge}
+use Rattle.poly_exact.specs.Places.{turn, reach, IsOnEdge}
 use Rattle.poly_exact.specs.Rings.{vertex, next}
 use Rattle.poly_exact.specs.West.{IsRing}
-use Rattle.poly_exact.specs.Rects.{Covers, AreBlocks, IsOff, rect_at, block_start, block_end}
+use Rattle.poly_exact.specs.Rects.{Covers, AreBlocks, IsOff, rect_at, block_start}
 use Rattle.de9im.specs.declared.scans.Contacts.{Contacts}
 use Rattle.de9im.specs.declared.cuts.Sight.{Sight}
 use Rattle.de9im.specs.Scans.{IsEdgeUnderWay, IsEdgeDone, IsSound, IsMore}

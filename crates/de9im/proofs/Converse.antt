@@ -3,14 +3,13 @@ use Rattle.std.proofs.Common.{◌≡◌, ◌≢◌, ℕ, ◌+◌, ◌%◌, ◌<�
 use lib.IntN.{ℤ, pos, ◌+ℤ◌, ◌-ℤ◌, ◌*ℤ◌, neg_ℤ, *ℤ_comm, *ℤ-zero}
 use lib.Signed.{◌<ℤ◌, ◌≤ℤ◌}
 use borrow.Author.Differences.{ints}
-use Rattle.std.proofs.lemmas.Int.{by_lt_z, clamps}
+use Rattle.std.proofs.lemmas.Int.{by_lt_z}
 use Rattle.poly_exact.specs.declared.points.Point.{Point}
-use Rattle.poly_exact.specs.Places.{Place, above, turn, reach, IsBetween, IsOnEdge, IsInside, IsClear, between}
+use Rattle.poly_exact.specs.Places.{Place, above, reach, IsOnEdge, IsInside, IsClear, between}
 use Rattle.poly_exact.specs.Rings.{vertex, next, crossings, IsOnRing, IsSimple}
-use Rattle.poly_exact.proofs.Whole.{weak, expand, polys, mul-pos, mul-nonneg, mul-le, zero-of-mul, nonneg-of-mul, pos-of-mul, neg-mul}
+use Rattle.poly_exact.proofs.Whole.{weak, expand, polys, mul-pos, mul-le, zero-of-mul, pos-of-mul, neg-mul}
 use Rattle.poly_exact.proofs.Crossings.{IsOnEdge-turned}
 use Rattle.poly_exact.proofs.RingLaw.{segment_law}
-use Rattle.poly_exact.proofs.Boxes.{moved}
 use Rattle.poly_exact.proofs.Local.{mixed_weight}
 use Rattle.poly_exact.proofs.Inner.{reach_part}
 use Rattle.poly_exact.proofs.Shifts.{level_height}

@@ -1,16 +1,16 @@
 -- Where a place is in one of two rings, and off both: the rings' edges tell so.
-use Rattle.std.proofs.Common.{◌≡◌, ◌≢◌, ℕ, ◌+◌, ◌%◌, ◌<◌, List, length, sym, ap, ◌∙◌, subst, arith, ◌⊎◌, inl, inr}
-use lib.IntN.{ℤ, pos, negsuc, ◌+ℤ◌, ◌-ℤ◌, ◌*ℤ◌, neg_ℤ, *ℤ_comm, *ℤ-zero}
+use Rattle.std.proofs.Common.{◌≡◌, ◌≢◌, ℕ, ◌+◌, ◌%◌, ◌<◌, List, length, subst, arith, ◌⊎◌, inl, inr}
+use lib.IntN.{ℤ, pos, negsuc, ◌+ℤ◌, ◌-ℤ◌, ◌*ℤ◌, neg_ℤ}
 use lib.Signed.{◌<ℤ◌, ◌≤ℤ◌}
 use borrow.Author.Differences.{ints}
 use Rattle.std.proofs.lemmas.Int.{by_lt_z}
 use Rattle.std.proofs.lemmas.Bool.{cases_eq}
 use Rattle.poly_exact.specs.declared.points.Point.{Point}
-use Rattle.poly_exact.specs.Places.{Place, above, turn, reach, IsOnEdge, IsInside, between}
+use Rattle.poly_exact.specs.Places.{Place, above, turn, IsOnEdge, IsInside}
 use Rattle.poly_exact.specs.Rings.{vertex, next, crossings, IsOnRing, IsInRing, IsOutOfRing, IsSimple}
 use Rattle.de9im.specs.Matrix.{Common}
-use Rattle.poly_exact.proofs.Whole.{weak, expand, polys, mul-pos, mul-nonneg, mul-neg-pos, mul-pn, zero-of-mul}
-use Rattle.poly_exact.proofs.Crossings.{turn-between, turn_first, IsOnEdge-turned}
+use Rattle.poly_exact.proofs.Whole.{expand, polys, mul-pos, mul-nonneg}
+use Rattle.poly_exact.proofs.Crossings.{IsOnEdge-turned}
 use Rattle.poly_exact.proofs.RingLaw.{parity}
 use Rattle.poly_exact.proofs.Boxes.{IsNear-wider, Near-both}
 use Rattle.poly_exact.proofs.Local.{KeepsOff, box_law, near_clear}

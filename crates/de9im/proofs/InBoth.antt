@@ -1,14 +1,11 @@
 -- A place is in both rings exactly where an edge of one has a place in the other, or the rings share a stretch at whose left is the inside of both.
-use Rattle.std.proofs.Common.{◌≡◌, ℕ, ◌%◌, ◌<◌, List, length, arith, ◌⊎◌, inl, inr}
+use Rattle.std.proofs.Common.{ℕ, List, arith, ◌⊎◌, inl, inr}
 use Rattle.std.specs.Prelude.{◌↔◌}
-use lib.IntN.{pos}
-use lib.Signed.{◌<ℤ◌}
 use Rattle.poly_exact.specs.declared.points.Point.{Point}
-use Rattle.poly_exact.specs.Places.{Place, IsInside}
-use Rattle.poly_exact.specs.Rings.{vertex, next, crossings, IsOnRing, IsInRing, IsOutOfRing, IsSimple}
+use Rattle.poly_exact.specs.Places.{Place}
+use Rattle.poly_exact.specs.Rings.{IsOnRing, IsInRing, IsOutOfRing, IsSimple}
 use Rattle.de9im.specs.Matrix.{Common}
 use Rattle.de9im.specs.Scans.{Stretch}
-use Rattle.poly_exact.proofs.West.{along_law}
 use Rattle.de9im.proofs.EdgeGives.{on_in, on_out}
 use Rattle.de9im.proofs.Entries.{Edge, Shared, entry, shared_left}
 

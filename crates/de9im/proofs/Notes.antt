@@ -18,7 +18,7 @@ use Rattle.de9im.specs.Scans.{IsLevel, Stretch, noted, IsSound, IsFull, IsMore, 
 use Rattle.poly_exact.specs.declared.rects.Rect.{Rect}
 use Rattle.poly_exact.specs.Rects.{CoversAll, IsOff}
 use Rattle.poly_exact.proofs.Pieces.{next-below}
-use Rattle.poly_exact.proofs.Meets.{parted_crossing, apart_across, apart_along}
+use Rattle.poly_exact.proofs.Meets.{parted_crossing}
 use Rattle.poly_exact.proofs.Covering.{off_apart}
 
 -- ---- tests

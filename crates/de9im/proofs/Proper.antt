@@ -1,16 +1,15 @@
 -- Where two edges of two simple rings cross, each ring has places in the other ring and out of it.
-use Rattle.std.proofs.Common.{◌≡◌, ℕ, ◌<◌, List, length, ap, ◌∙◌, subst, arith, ◌⊎◌, inl, inr}
-use lib.IntN.{ℤ, pos, nat_abs, ◌+ℤ◌, ◌-ℤ◌, ◌*ℤ◌, neg_ℤ, *ℤ-zero, zero-*ℤ}
+use Rattle.std.proofs.Common.{◌≡◌, ℕ, ◌<◌, List, length, subst, arith, ◌⊎◌, inl, inr}
+use lib.IntN.{ℤ, pos, nat_abs, ◌+ℤ◌, ◌-ℤ◌, ◌*ℤ◌, *ℤ-zero}
 use lib.Signed.{◌<ℤ◌, ◌≤ℤ◌}
 use borrow.Author.Differences.{ints}
-use Rattle.std.proofs.lemmas.Int.{clamps}
 use Rattle.std.proofs.lemmas.Bool.{cases_eq}
 use Rattle.poly_exact.specs.declared.points.Point.{Point}
-use Rattle.poly_exact.specs.Places.{Place, turn, IsBetween, IsOnEdge, IsInside, IsNear, between}
+use Rattle.poly_exact.specs.Places.{Place, turn, IsOnEdge, IsInside, IsNear, between}
 use Rattle.poly_exact.specs.Rings.{vertex, next, crossings, IsOnRing, IsInRing, IsOutOfRing, IsSimple}
 use Rattle.de9im.specs.Matrix.{Common}
-use Rattle.poly_exact.proofs.Whole.{weak, expand, polys, mul-nonneg, mul-le}
-use Rattle.poly_exact.proofs.Crossings.{turn-between, IsOnEdge-turned}
+use Rattle.poly_exact.proofs.Whole.{weak, mul-nonneg, mul-le}
+use Rattle.poly_exact.proofs.Crossings.{turn-between}
 use Rattle.poly_exact.proofs.Local.{mixed_weight}
 use Rattle.poly_exact.proofs.Inner.{one, near_part, back_part, IsOnEdge-between}
 use Rattle.de9im.proofs.Halves.{box, opposite}

@@ -1,12 +1,11 @@
 -- What a scan of all pairs of edges of two rings finds.
-use Rattle.std.specs.Prelude.{◌≡◌, ◌≢◌, ◌⊎◌, ℕ, ◌<◌, ◌≤◌, ◌%◌, pos, ◌<ℤ◌, List, length, Bool, true, false, not, ◌&&◌, ◌||◌, IsTrue}
+use Rattle.std.specs.Prelude.{◌≡◌, ◌≢◌, ◌⊎◌, ℕ, ◌<◌, ◌%◌, pos, ◌<ℤ◌, List, length, Bool, true, not, ◌&&◌, ◌||◌, IsTrue}
 use Rattle.poly_exact.specs.declared.points.Point.{Point}
 use Rattle.poly_exact.specs.declared.edges.Meeting.{Meeting}
 use Rattle.poly_exact.specs.declared.edges.Meeting.TheVariants as meeting
 use Rattle.de9im.specs.declared.scans.Contacts.{Contacts}
-use Rattle.poly_exact.specs.Places.{Place, turn, IsOnEdge, IsInside, bit}
-use Rattle.poly_exact.specs.Rings.{vertex, next, crossings, IsOnRing, IsSimple}
-use Rattle.poly_exact.specs.Located.{AreSmall}
+use Rattle.poly_exact.specs.Places.{Place, turn, IsOnEdge, IsInside}
+use Rattle.poly_exact.specs.Rings.{vertex, next, crossings, IsOnRing}
 use Rattle.de9im.specs.Matrix.{Common}
 use Rattle.poly_exact.specs.Small.{place_at}
 use Rattle.poly_exact.specs.Met.{AreParted, Shares, DoCross}

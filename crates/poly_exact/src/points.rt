@@ -21,11 +21,12 @@ pub struct HalfPoint {
     pub y: i64,
 }
 
-/// The fraction `num / den`.
+/// The fraction `num / den`. No call of this crate needs one: it is there for callers who name points of edges.
 #[derive(Clone, Copy, Debug)]
 pub struct Frac {
     pub num: i128,
     pub den: i128,
+    pub ghost positive: { pos 0 <ℤ den },
 }
 
 /// `a * b + c * d`.

@@ -166,3 +166,11 @@ fn points_lie_in_on_or_out_of_a_ring(rt: HostRuntime) -> Result<(), Fail> {
     }
     Ok(())
 }
+
+fn are_shared<T: Send + Sync>() {}
+
+#[test]
+fn rings_can_be_shared() {
+    are_shared::<Ring>();
+    are_shared::<Outline<'_>>();
+}
