@@ -9,6 +9,8 @@
 #include <string>
 #include <vector>
 
+static void quiet(const char*, ...) {}
+
 using Clock = std::chrono::steady_clock;
 
 static long long micros(Clock::time_point from, Clock::time_point to) {
@@ -29,7 +31,7 @@ static GEOSGeometry* polygon(const std::string& line) {
 }
 
 int main() {
-  initGEOS([](const char*, ...) {}, [](const char*, ...) {});
+  initGEOS(quiet, quiet);
   auto begun = Clock::now();
   std::vector<GEOSGeometry*> polygons;
   for (std::string line; std::getline(std::cin, line);) polygons.push_back(polygon(line));
