@@ -1,0 +1,17 @@
+pub mod Halves
+pub mod Proper
+pub mod Nearest
+pub mod Converse
+pub mod Entries
+pub mod EdgeGives
+pub mod InBoth
+pub mod Chains
+pub mod Disjoint
+pub mod Notes
+pub mod Samples
+pub mod Sights
+pub mod Gathers
+pub mod Asides
+pub mod BlockSkips
+pub mod Apartness
+pub mod PatternTexts

@@ -1,0 +1,13 @@
+pub mod Places
+pub mod Rings
+pub mod Small
+pub mod Located
+pub mod West
+pub mod Rects
+pub mod Met
+pub mod Checks
+pub mod Kept
+pub mod Built
+pub mod Prepared
+pub mod Outlines
+pub mod Laws
