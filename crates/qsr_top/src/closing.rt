@@ -13,7 +13,6 @@ ghost use Rattle.qsr_top.specs.Output.{IsVerdict, ClosesNetwork, CloseInput, Wor
 ghost use Rattle.qsr_top.specs.SinkAfter.{IsVerdictStatus};
 ghost use Rattle.qsr_top.specs.Told.{WhereTold, SourceWaits};
 
-use qsr_lex::MAX_TEXT;
 use crate::answers::Answer;
 use crate::inputs::{calculus, network};
 use crate::statuses::Status;
@@ -22,6 +21,7 @@ use calculus_table::{Calculus, Memory};
 use closure_seq::close;
 use network_file::text;
 use network_words::Net;
+use qsr_lex::MAX_TEXT;
 use qsr_outside::{Shelf, Source};
 use qsr_words::Close;
 use std::alloc::Global;

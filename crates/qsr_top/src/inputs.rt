@@ -9,11 +9,11 @@ ghost use Rattle.qsr_top.specs.Parts.{Then};
 ghost use Rattle.qsr_top.specs.Inputs.{CalculusOf, DocumentOf, NetworkOf, SourceNetwork, TableOf, builtin_of};
 ghost use Rattle.qsr_top.specs.Told.{told_for};
 
-use qsr_lex::MAX_TEXT;
 use crate::stops::{Stop, file_stop, load_stop};
 use calculus_builtin::{allen, point, rcc8};
 use calculus_table::{Calculus, Memory};
 use network_words::Net;
+use qsr_lex::MAX_TEXT;
 use qsr_outside::{ReadStop, Shelf, Source, fetch, read_all};
 use std::alloc::Global;
 

@@ -14,4 +14,3 @@ mod tests;
 pub use laws::output_is_one;
 pub use running::run;
 pub use statuses::{Place, Status};
-

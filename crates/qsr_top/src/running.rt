@@ -13,12 +13,12 @@ ghost use Rattle.qsr_top.specs.Spoken.{IsSpoken};
 ghost use Rattle.qsr_top.specs.SinkAfter.{LeavesInSink, LeavesByStatus, IsWritten};
 ghost use Rattle.qsr_top.specs.Told.{WhereTold, SourceWaits, AbsentStays, names_document};
 
-use qsr_lex::MAX_TEXT;
 use crate::answers::{Answer, refused, usage};
 use crate::closing::close_answer;
 use crate::statuses::Status;
 use crate::stops::Stop;
 use calculus_table::Memory;
+use qsr_lex::MAX_TEXT;
 use qsr_outside::{Gate, ReadStop, Shelf, Sink, Source, WriteStop, write_all};
 use qsr_words::{Request, read};
 use std::alloc::Global;
