@@ -1,18 +1,22 @@
-// Closes a network of RCC-8 by a queue of the edges whose set isn't full, plainly: the baseline of closure.py. It trusts its input.
+// Closes a network of RCC-8 by the field's methods, plainly: the rival of closure.py. It trusts its input.
+//
+// A bucket queue takes the edge that restricts most: a base relation weighs more the larger its compositions are, and a set the
+// sum of its members (van Beek and Manchak 1996; Nebel 1997). A table over all pairs of sets composes, and both directions of
+// each edge are stored, a byte each.
 #include <cstdint>
 #include <cstdio>
+#include <cstdlib>
 #include <cstring>
-#include <deque>
-#include <iostream>
-#include <sstream>
-#include <string>
+#include <utility>
 #include <vector>
+
+using Set = uint8_t;
 
 static const char *NAMES[8] = {"DC", "EC", "PO", "TPP", "NTPP", "TPPi", "NTPPi", "EQ"};
 static const int CONVERSE[8] = {0, 1, 2, 5, 6, 3, 4, 7};
 enum { DC = 1, EC = 2, PO = 4, TPP = 8, NTPP = 16, TPPI = 32, NTPPI = 64, EQ = 128 };
-static const uint64_t A = DC | EC | PO, P = TPP | NTPP, W = TPPI | NTPPI, ALL = 255;
-static const uint64_t TABLE[64] = {
+static const int A = DC | EC | PO, P = TPP | NTPP, W = TPPI | NTPPI, ALL = 255;
+static const int TABLE[64] = {
     ALL, A | P, A | P, A | P, A | P, DC, DC, DC,
     A | W, A | TPP | TPPI | EQ, A | P, EC | PO | P, PO | P, DC | EC, DC, EC,
     A | W, A | W, ALL, PO | P, PO | P, A | W, A | W, PO,
@@ -22,72 +26,159 @@ static const uint64_t TABLE[64] = {
     A | W, PO | W, PO | W, PO | W, PO | P | W | EQ, NTPPI, NTPPI, NTPPI,
     DC, EC, PO, TPP, NTPP, TPPI, NTPPI, EQ};
 
-static uint64_t compose(uint64_t a, uint64_t b) {
-  uint64_t all = 0;
-  for (uint64_t x = a; x; x &= x - 1)
-    for (uint64_t y = b; y; y &= y - 1) all |= TABLE[__builtin_ctzll(x) * 8 + __builtin_ctzll(y)];
-  return all;
+static Set composed[256][256], converse[256];
+static int weight[256];
+
+// Each entry from those of smaller sets.
+static void make_tables() {
+  int size[8] = {0}, least = 64, most = 0;
+  for (int r = 0; r < 8; r++) {
+    for (int s = 0; s < 8; s++) size[r] += __builtin_popcount(TABLE[8 * r + s]);
+    least = size[r] < least ? size[r] : least;
+    most = size[r] > most ? size[r] : most;
+  }
+  for (int a = 1; a < 256; a++) {
+    int r = __builtin_ctz(a), rest = a & (a - 1);
+    converse[a] = converse[rest] | 1 << CONVERSE[r];
+    weight[a] = weight[rest] + 1 + 3 * (size[r] - least) / (most - least);
+    for (int b = 1; b < 256; b++)
+      composed[a][b] = rest ? composed[rest][b] | composed[a ^ rest][b]
+                            : composed[a][b & (b - 1)] | TABLE[8 * r + __builtin_ctz(b)];
+  }
 }
 
-static uint64_t converse(uint64_t a) {
-  uint64_t all = 0;
-  for (uint64_t x = a; x; x &= x - 1) all |= 1ull << CONVERSE[__builtin_ctzll(x)];
-  return all;
+// Edges by weight. An edge that was put into a lighter bucket since is passed over where it stood before.
+struct Queue {
+  std::vector<int> buckets[64];
+  std::vector<uint8_t> bucket_of;
+  int lightest = 64;
+  explicit Queue(int edges) : bucket_of(edges, 0) {}
+  void push(int edge, int heavy) {
+    if (bucket_of[edge] && bucket_of[edge] - 1 <= heavy) return;
+    bucket_of[edge] = heavy + 1;
+    buckets[heavy].push_back(edge);
+    if (heavy < lightest) lightest = heavy;
+  }
+  int pop() {
+    for (; lightest < 64; lightest++)
+      while (!buckets[lightest].empty()) {
+        int edge = buckets[lightest].back();
+        buckets[lightest].pop_back();
+        if (bucket_of[edge] == lightest + 1) return bucket_of[edge] = 0, edge;
+      }
+    return -1;
+  }
+};
+
+struct Network {
+  int n;
+  std::vector<Set> sets;
+  Queue queue;
+  explicit Network(int n) : n(n), sets(n * n, ALL), queue(n * n) {}
+  void set(int i, int j, Set a) { sets[i * n + j] = a, sets[j * n + i] = converse[a]; }
+  void push(int i, int j) {
+    if (i > j) std::swap(i, j);
+    queue.push(i * n + j, weight[sets[i * n + j]]);
+  }
+  bool close() {
+    for (int edge; (edge = queue.pop()) >= 0;) {
+      int i = edge / n, j = edge % n;
+      Set *from_i = &sets[i * n], *from_j = &sets[j * n];
+      const Set *forward = composed[from_i[j]], *backward = composed[from_j[i]];
+      for (int k = 0; k < n; k++) {
+        Set narrowed = from_i[k] & forward[from_j[k]];
+        if (narrowed != from_i[k]) {
+          if (!narrowed) return false;
+          set(i, k, narrowed), push(i, k);
+        }
+        narrowed = from_j[k] & backward[from_i[k]];
+        if (narrowed != from_j[k]) {
+          if (!narrowed) return false;
+          set(j, k, narrowed), push(j, k);
+        }
+      }
+    }
+    return true;
+  }
+};
+
+static std::vector<char> read_all() {
+  std::vector<char> text(1 << 16);
+  size_t held = 0;
+  while (size_t more = fread(text.data() + held, 1, text.size() - held, stdin))
+    if ((held += more) == text.size()) text.resize(2 * held);
+  text.resize(held);
+  text.push_back(0);
+  return text;
+}
+
+static int number(const char *&at) {
+  while (*at == ' ') at++;
+  int value = 0;
+  for (; *at >= '0' && *at <= '9'; at++) value = 10 * value + (*at - '0');
+  return value;
+}
+
+static Set set_of_names(const char *&at) {
+  Set a = 0;
+  while (*at == ' ' || *at == '(') at++;
+  while (*at != ')') {
+    const char *end = at;
+    while (*end != ' ') end++;
+    for (int r = 0; r < 8; r++)
+      if (!strncmp(NAMES[r], at, end - at) && !NAMES[r][end - at]) a |= 1 << r;
+    for (at = end; *at == ' ';) at++;
+  }
+  return a;
+}
+
+static char *print(char *out, int value) {
+  char digits[8];
+  int count = 0;
+  do digits[count++] = '0' + value % 10;
+  while (value /= 10);
+  while (count) *out++ = digits[--count];
+  return out;
 }
 
 int main() {
-  std::ios::sync_with_stdio(false);
-  std::string line, word;
-  std::getline(std::cin, line);
-  int n = std::stoi(line.substr(6));
-  std::vector<uint64_t> net(n * n, ALL);
-  while (std::getline(std::cin, line) && line != ".") {
-    std::istringstream words(line);
-    int i, j;
-    words >> i >> j >> word;
-    uint64_t set = 0;
-    while (words >> word && word != ")")
-      for (int r = 0; r < 8; r++)
-        if (word == NAMES[r]) set |= 1ull << r;
-    net[i * n + j] &= set;
-    net[j * n + i] &= converse(set);
+  make_tables();
+  std::vector<char> text = read_all();
+  const char *at = text.data() + 6;
+  Network net(number(at));
+  int n = net.n;
+  while (*++at != '.') {
+    int i = number(at), j = number(at);
+    net.set(i, j, net.sets[i * n + j] & set_of_names(at));
+    at++;
   }
-  std::deque<std::pair<int, int>> queue;
-  std::vector<char> queued(n * n, 0);
-  for (int i = 0; i < n; i++)
-    for (int j = i + 1; j < n; j++)
-      if (net[i * n + j] != ALL) queued[i * n + j] = 1, queue.push_back({i, j});
-  bool empty = false;
-  for (uint64_t i = 0; i < (uint64_t)n; i++)
-    for (uint64_t j = i + 1; j < (uint64_t)n; j++) empty |= net[i * n + j] == 0;
-  auto narrow = [&](int i, int k, uint64_t along) {
-    uint64_t met = net[i * n + k] & along;
-    if (met == net[i * n + k]) return;
-    net[i * n + k] = met;
-    net[k * n + i] = converse(met);
-    if (!met) empty = true;
-    int a = i < k ? i : k, b = i < k ? k : i;
-    if (!queued[a * n + b]) queued[a * n + b] = 1, queue.push_back({a, b});
-  };
-  while (!queue.empty() && !(empty && n > 2)) {
-    auto [i, j] = queue.front();
-    queue.pop_front();
-    queued[i * n + j] = 0;
-    for (int k = 0; k < n; k++) {
-      if (k == i || k == j) continue;
-      narrow(i, k, compose(net[i * n + j], net[j * n + k]));
-      narrow(k, j, compose(net[k * n + i], net[i * n + j]));
+  bool whole = true;
+  for (int i = 0; i < n; i++) {
+    net.sets[i * n + i] = EQ;
+    for (int j = i + 1; j < n; j++) {
+      whole = whole && (n < 3 || net.sets[i * n + j]);
+      if (net.sets[i * n + j] != ALL) net.push(i, j);
     }
   }
-  if (empty && n > 2) std::fill(net.begin(), net.end(), 0);
-  std::string out = "nodes " + std::to_string(n) + "\n";
+  if (!whole || !net.close()) std::fill(net.sets.begin(), net.sets.end(), 0);
+  char words[256][40];
+  size_t lengths[256];
+  for (int a = 0; a < 256; a++) {
+    strcpy(words[a], " ( ");
+    for (int r = 0; r < 8; r++)
+      if (a >> r & 1) strcat(words[a], NAMES[r]), strcat(words[a], " ");
+    strcat(words[a], ")\n");
+    lengths[a] = strlen(words[a]);
+  }
+  std::vector<char> held(64 + 64 * (size_t)n * n);
+  char *out = held.data();
+  memcpy(out, "nodes ", 6), out = print(out + 6, n), *out++ = '\n';
   for (int i = 0; i < n; i++)
     for (int j = i + 1; j < n; j++) {
-      out += std::to_string(i) + " " + std::to_string(j) + " ( ";
-      for (int r = 0; r < 8; r++)
-        if (net[i * n + j] >> r & 1) out += std::string(NAMES[r]) + " ";
-      out += ")\n";
+      out = print(out, i), *out++ = ' ', out = print(out, j);
+      Set a = net.sets[i * n + j];
+      memcpy(out, words[a], 40), out += lengths[a];
     }
-  out += ".\n";
-  std::fwrite(out.data(), 1, out.size(), stdout);
+  memcpy(out, ".\n", 2), out += 2;
+  fwrite(held.data(), 1, out - held.data(), stdout);
 }

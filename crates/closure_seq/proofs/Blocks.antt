@@ -1,18 +1,17 @@
 -- Lanes and blocks of nodes, one after another.
-use Rattle.std.proofs.Common.{◌≡◌, ◌≢◌, ℕ, ◌+◌, ◌*◌, ◌-◌, ◌<◌, ◌≤◌, List, refl, sym, ◌∙◌, ap, subst, arith, ◌⊎◌, inl, inr}
+use Rattle.std.proofs.Common.{◌≡◌, ℕ, ◌+◌, ◌*◌, ◌-◌, ◌<◌, List, sym, ◌∙◌, ap, subst, arith, inl, inr}
 use Rattle.std.specs.Prelude.{slice_index}
 use Rattle.std.proofs.lemmas.Bool.{cases_lt, cases_eq}
 use Rattle.calculus_table.specs.Rel.{Has, IsWithin, IsWithout}
 use Rattle.calculus_table.specs.Algebra.{Algebra}
-use Rattle.calculus_table.specs.Composition.{full_of, composition}
-use Rattle.network_words.specs.Edge.{IsProperPair, IsProperTriple}
-use Rattle.network_words.proofs.Pairs.{pair-first, pair-second, pair-outer}
-use Rattle.compose_fast.specs.Nibbles.{byte}
+use Rattle.calculus_table.specs.Composition.{composition}
+use Rattle.network_words.specs.Edge.{IsProperTriple}
+use Rattle.network_words.proofs.Pairs.{pair-outer}
 use Rattle.compose_fast.specs.Planes.{AreTablesOf, IsWithinAlong}
 use Rattle.compose_fast.proofs.Clear.{within_along}
 use Rattle.closure_seq.specs.Worklist.{Worklist, IsQueued, AreBytesOf, set_of}
 use Rattle.closure_seq.specs.Propagation.{IsReady, IsStep, IsClosedAlong, IsSettledAt}
-use Rattle.closure_seq.proofs.Steps.{IsStep-refl, IsStep-trans}
+use Rattle.closure_seq.proofs.Steps.{IsStep-trans}
 use Rattle.closure_seq.proofs.Settled.{IsSettledAt-step}
 
 -- a lane that is clear tells that its triple is closed, unless the set of (i, j) changed meanwhile

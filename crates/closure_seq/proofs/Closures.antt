@@ -1,7 +1,7 @@
 -- The closure of a network by what propagation leaves.
-use Rattle.std.proofs.Common.{◌≡◌, ◌≢◌, ℕ, ◌+◌, ◌*◌, ◌<◌, ◌≤◌, List, length, get_or, refl, sym, ◌∙◌, ap, subst, arith, ◌⊎◌, inl, inr}
+use Rattle.std.proofs.Common.{◌≡◌, ℕ, ◌<◌, List, length, sym, ◌∙◌, ap, subst, arith, inl, inr}
 use Rattle.std.specs.Prelude.{slice_index}
-use Rattle.std.proofs.lemmas.Bool.{cases_lt, cases_eq}
+use Rattle.std.proofs.lemmas.Bool.{cases_lt}
 use Rattle.std.proofs.lemmas.List.{get_or_past}
 use Rattle.calculus_table.specs.Rel.{IsWithin}
 use Rattle.calculus_table.specs.Algebra.{Algebra}
@@ -16,7 +16,7 @@ use Rattle.network_words.proofs.Networks.{relation_between-straight, relation_be
 use Rattle.network_words.proofs.Pairs.{pair-ordered, pair-first, pair-second, pair-outer}
 use Rattle.network_words.proofs.Refinements.{IsNetwork-refines}
 use Rattle.network_words.proofs.Scenarios.{converse-empty, turned-empty, closed-empty}
-use Rattle.closure_seq.specs.Worklist.{Worklist, set_of}
+use Rattle.closure_seq.specs.Worklist.{Worklist}
 use Rattle.closure_seq.specs.Propagation.{IsInStep, IsInside, IsRefinement, HasEmpty, AreClosed}
 
 -- a fact of each word from one of each pair

@@ -1,11 +1,11 @@
 -- The planes hold the sets.
-use Rattle.std.proofs.Common.{◌≡◌, ◌≢◌, ℕ, ◌+◌, ◌*◌, ◌<◌, ◌≤◌, Bool, List, length, get_or, set, replicate, refl, sym, ◌∙◌, ap, subst, arith, ◌⊎◌, inl, inr}
+use Rattle.std.proofs.Common.{◌≡◌, ◌≢◌, ℕ, ◌+◌, ◌*◌, ◌<◌, ◌≤◌, List, length, get_or, replicate, sym, ◌∙◌, ap, arith, inl, inr}
 use Rattle.std.specs.Prelude.{slice_index, slice_set}
 use Rattle.std.proofs.lemmas.Bool.{cases_lt, cases_eq}
 use Rattle.std.proofs.lemmas.List.{length-set, get_or-set_same, get_or-set_other, get_or-replicate, length-replicate, get_or_past}
 use Rattle.compose_fast.specs.Nibbles.{byte}
 use Rattle.compose_fast.proofs.Parts.{byte-empty}
-use Rattle.closure_seq.specs.Worklist.{Worklist, IsSized, AreBytesOf, set_of}
+use Rattle.closure_seq.specs.Worklist.{Worklist, IsSized, AreBytesOf}
 
 pub zero-at : (n i : ℕ) → get_or {A = ℕ} (replicate n 0) i 0 ≡ 0
 zero-at n i = elim (cases_lt i n) [

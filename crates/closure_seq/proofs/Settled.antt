@@ -1,22 +1,19 @@
 -- Each triple that isn't closed has a source edge that is queued.
-use Rattle.std.proofs.Common.{◌≡◌, ◌≢◌, ℕ, ◌+◌, ◌*◌, ◌<◌, ◌≤◌, Bool, true, false, cond, List, length, get_or, set, refl, sym, ◌∙◌, ap, subst, arith, ◌⊎◌, inl, inr, count_by}
-use Rattle.std.specs.Prelude.{bit_and, slice_index, slice_set}
-use Rattle.std.proofs.lemmas.Bool.{cases_lt, cases_eq}
-use Rattle.std.proofs.lemmas.List.{get_or-set_same}
+use Rattle.std.proofs.Common.{◌≡◌, ◌≢◌, ℕ, ◌+◌, ◌<◌, Bool, true, false, cond, List, length, get_or, set, sym, ◌∙◌, subst, arith, inl, inr, count_by}
+use Rattle.std.specs.Prelude.{bit_and, slice_set}
+use Rattle.std.proofs.lemmas.Bool.{cases_lt}
 use Rattle.std.proofs.lemmas.List.Sums.{sum_by-set}
 use Rattle.calculus_table.specs.Rel.{IsWithin}
 use Rattle.calculus_table.specs.Algebra.{Algebra}
-use Rattle.calculus_table.specs.Composition.{full_of, composition, converse}
+use Rattle.calculus_table.specs.Composition.{composition, converse}
 use Rattle.calculus_table.specs.Calculus.{IsCalculus}
 use Rattle.calculus_table.proofs.Sets.{IsWithin-trans, IsWithin-meet, IsWithin-meet_l, IsWithin-meet_r, within-meet}
 use Rattle.calculus_table.proofs.Compositions.{converse-mono, converse-composition, composition-mono}
 use Rattle.network_words.specs.Edge.{IsProperPair, IsProperTriple, IsSamePair}
-use Rattle.network_words.specs.Network.{IsNetwork, relation_between}
-use Rattle.network_words.specs.Closure.{IsClosed}
-use Rattle.network_words.proofs.Pairs.{pair-swap, pair-first, pair-second, pair-outer, triple-swap}
-use Rattle.closure_seq.specs.Worklist.{Worklist, IsSized, IsQueued, IsWaiting, IsIdle, edge_place, set_of, work_left}
-use Rattle.closure_seq.specs.Propagation.{AreConverses, IsReady, IsInside, IsStep, HasEmpty, IsClosedAlong, IsSettledAt, IsSettled, IsSettledBut}
-use Rattle.closure_seq.proofs.Places.{edge_place-inside, same-place, same-cases, mark-kept, IsQueued-swap, pair-from_place}
+use Rattle.network_words.proofs.Pairs.{pair-first, pair-second, pair-outer, triple-swap}
+use Rattle.closure_seq.specs.Worklist.{Worklist, IsSized, IsQueued, IsIdle, edge_place, set_of, work_left}
+use Rattle.closure_seq.specs.Propagation.{AreConverses, IsReady, IsStep, HasEmpty, IsClosedAlong, IsSettledAt, IsSettled, IsSettledBut}
+use Rattle.closure_seq.proofs.Places.{edge_place-inside, same-cases, mark-kept, IsQueued-swap, pair-from_place}
 use Rattle.closure_seq.proofs.Steps.{refined, IsStep-refined, refined-first, refined-other}
 
 -- ---- one triple narrowed

@@ -1,12 +1,11 @@
 -- Steps of propagation: the sets of a pair made smaller, and steps one after another.
-use Rattle.std.proofs.Common.{◌≡◌, ◌≢◌, ℕ, ◌+◌, ◌*◌, ◌<◌, ◌≤◌, Bool, true, false, cond, List, length, get_or, set, refl, sym, ◌∙◌, ap, subst, arith, ◌⊎◌, inl, inr, count_by, sum}
+use Rattle.std.proofs.Common.{◌≡◌, ◌≢◌, ℕ, ◌+◌, ◌*◌, ◌<◌, ◌≤◌, Bool, true, false, cond, List, length, get_or, set, refl, sym, ◌∙◌, subst, arith, inl, inr, count_by, sum}
 use Rattle.std.specs.Prelude.{slice_index, slice_set}
-use Rattle.std.proofs.lemmas.Bool.{cases_eq}
 use Rattle.std.proofs.lemmas.List.{length-set, get_or-set_same, get_or-set_other}
 use Rattle.std.proofs.lemmas.List.Sums.{sum_by-set}
 use Rattle.calculus_table.specs.Rel.{IsWithin}
 use Rattle.calculus_table.specs.Algebra.{Algebra}
-use Rattle.calculus_table.specs.Composition.{full_of, composition, converse}
+use Rattle.calculus_table.specs.Composition.{full_of, converse}
 use Rattle.calculus_table.specs.Calculus.{IsCalculus}
 use Rattle.calculus_table.proofs.Sets.{IsWithin-refl, IsWithin-trans, IsWithin-le}
 use Rattle.calculus_table.proofs.Compositions.{converse-mono, converse-within, converse-converse}
@@ -14,7 +13,7 @@ use Rattle.network_words.specs.Edge.{IsProperPair, IsSamePair}
 use Rattle.network_words.specs.Network.{IsNetwork, relation_between}
 use Rattle.network_words.specs.Closure.{IsClosed}
 use Rattle.network_words.proofs.Networks.{relation_between-converse}
-use Rattle.closure_seq.specs.Worklist.{Worklist, IsSized, IsQueued, edge_place, set_of, with_pair, work_left}
+use Rattle.closure_seq.specs.Worklist.{Worklist, IsSized, edge_place, set_of, with_pair}
 use Rattle.closure_seq.specs.Propagation.{AreConverses, IsReady, IsInside, IsStep, IsRefinement}
 use Rattle.closure_seq.proofs.Places.{edge_place-inside, same-place, same-cases, mark-kept}
 

@@ -1,5 +1,5 @@
 -- The work of closing: the sets of all ordered pairs of nodes, and a queue of edges.
-use Rattle.std.specs.Prelude.{◌≡◌, ◌≢◌, ℕ, ◌+◌, ◌*◌, ◌<◌, ◌≤◌, ◌⊎◌, Bool, true, false, List, length, slice_index, slice_index_or, slice_set, nat_lt, if◌then◌else◌, sum, count_by}
+use Rattle.std.specs.Prelude.{◌≡◌, ℕ, ◌+◌, ◌*◌, ◌<◌, ◌≤◌, ◌⊎◌, Bool, true, false, List, length, slice_index, slice_index_or, slice_set, nat_lt, if◌then◌else◌, sum, count_by}
 use Rattle.network_words.specs.declared.TheConstants.{MAX_NODES}
 use Rattle.compose_fast.specs.Nibbles.{byte}
 

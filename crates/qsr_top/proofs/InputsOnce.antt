@@ -1,7 +1,7 @@
 -- Each input has one value or one cause.
-use Rattle.std.proofs.Common.{◌≡◌, ℕ, List, Option, None, Some, Result, Ok, Err, refl, sym, ◌∙◌, ap, subst, arith}
+use Rattle.std.proofs.Common.{◌≡◌, ℕ, List, Option, None, Some, Result, Ok, Err, refl, sym, ◌∙◌, ap, arith}
 use Rattle.std.specs.Prelude.{IsSomeAnd, MatchOption}
-use Rattle.calculus_table.specs.Calculus.{NamedAlgebra, IsNamedCalculus}
+use Rattle.calculus_table.specs.Calculus.{NamedAlgebra}
 use Rattle.calculus_load.specs.TableFile.{table_of}
 use Rattle.calculus_load.proofs.Faults.{load-one, loaded-none}
 use Rattle.calculus_load.specs.declared.fault.LoadFault.{LoadFault}

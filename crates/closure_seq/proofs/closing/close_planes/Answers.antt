@@ -1,8 +1,6 @@
-use Rattle.std.proofs.Common.{◌≡◌, ◌∙◌, ℕ, subst}
-use Rattle.network_words.specs.Network.{IsNetwork}
-use Rattle.calculus_table.specs.Algebra.{Algebra}
-use Rattle.closure_seq.specs.Worklist.{Worklist, IsBegun}
-use Rattle.closure_seq.specs.Propagation.{IsReady, IsInStep, AreConverses}
+use Rattle.std.proofs.Common.{◌∙◌, ℕ, subst}
+use Rattle.closure_seq.specs.Worklist.{IsBegun}
+use Rattle.closure_seq.specs.Propagation.{IsInStep}
 use Rattle.closure_seq.proofs.Settled.{IsReady-queue}
 use Rattle.closure_seq.proofs.Starts.{IsSettled-begun}
 use Rattle.closure_seq.proofs.Loads.{AreConverses-in_step, IsInStep-queue, IsInStep-stored}

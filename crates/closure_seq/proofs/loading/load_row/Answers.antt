@@ -1,4 +1,4 @@
-use Rattle.std.proofs.Common.{◌≡◌, ◌<◌, ◌≤◌, refl, ◌∙◌, ap, arith}
+use Rattle.std.proofs.Common.{◌<◌, ◌≤◌, refl, ◌∙◌, ap, arith}
 use Rattle.closure_seq.specs.Worklist.{Worklist}
 use Rattle.closure_seq.proofs.Loads.{IsLoaded-diagonal, IsRowLoaded-pair, IsLoaded-row}
 use Rattle.closure_seq.proofs.loading.load_row.Goals as goal

@@ -1,12 +1,10 @@
-use Rattle.std.proofs.Common.{◌≡◌, ◌≢◌, ℕ, ap, ◌∙◌, sym, subst}
+use Rattle.std.proofs.Common.{◌≡◌, ℕ, ◌∙◌, sym}
 use Rattle.std.specs.Prelude.{bit_and}
 use Rattle.std.proofs.lemmas.Bool.{eqb-true, eq-eqb}
-use Rattle.calculus_table.specs.Rel.{IsWithin}
 use Rattle.calculus_table.specs.Algebra.{Algebra}
-use Rattle.calculus_table.specs.Composition.{full_of, composition}
+use Rattle.calculus_table.specs.Composition.{composition}
 use Rattle.calculus_table.proofs.Sets.{IsWithin-trans, IsWithin-meet_l}
 use Rattle.network_words.proofs.Pairs.{pair-first, pair-second, pair-outer}
-use Rattle.closure_seq.specs.Worklist.{set_of}
 use Rattle.closure_seq.proofs.Steps.{IsStep-refl}
 use Rattle.closure_seq.proofs.Settled.{IsClosedAlong-met, step-read, closed-read, empty-read}
 use Rattle.closure_seq.proofs.propagation.narrow.Goals as goal

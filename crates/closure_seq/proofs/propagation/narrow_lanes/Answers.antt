@@ -1,5 +1,4 @@
-use Rattle.std.proofs.Common.{◌*◌, refl}
-use Rattle.std.proofs.lemmas.Result.{on_err_weaker}
+use Rattle.std.proofs.Common.{◌*◌}
 use Rattle.calculus_table.proofs.Sets.{not_Has-empty}
 use Rattle.closure_seq.proofs.Steps.{IsStep-refl, IsStep-trans, IsReady-step, pair-step}
 use Rattle.closure_seq.proofs.Blocks.{AreLanesDone-step}

@@ -1,6 +1,4 @@
 use Rattle.std.proofs.lemmas.Result.{on_ok_weaker}
-use Rattle.network_words.proofs.Pairs.{pair-swap}
-use Rattle.closure_seq.proofs.Steps.{IsStep-trans, IsReady-step, pair-step}
 use Rattle.closure_seq.proofs.Settled.{IsSettled-propagated}
 use Rattle.closure_seq.proofs.propagation.propagate.Goals as goal
 

@@ -1,10 +1,9 @@
-use Rattle.std.proofs.Common.{◌≡◌, ◌<◌, subst, sym, ◌∙◌, ap, refl, arith}
-use Rattle.network_words.specs.Edge.{IsProperPair}
+use Rattle.std.proofs.Common.{◌<◌, subst, sym, ◌∙◌, refl, arith}
 use Rattle.closure_seq.specs.Worklist.{Worklist, work_left}
-use Rattle.closure_seq.specs.Propagation.{IsReady, IsRefinement, IsSettledBut, AreClosed}
+use Rattle.closure_seq.specs.Propagation.{IsRefinement, AreClosed}
 use Rattle.closure_seq.proofs.Places.{waiting-pair}
 use Rattle.closure_seq.proofs.Steps.{IsRefinement-refl, IsRefinement-step, IsReady-refinement}
-use Rattle.closure_seq.proofs.Settled.{popped, IsReady-queue, IsSettledBut-popped, work_left-popped, IsClosedAlong-idle}
+use Rattle.closure_seq.proofs.Settled.{IsReady-queue, IsSettledBut-popped, work_left-popped, IsClosedAlong-idle}
 use Rattle.closure_seq.proofs.propagation.propagate_all.Goals as goal
 
 pub loop-i-init : goal.loop-i-init

@@ -1,5 +1,4 @@
-use Rattle.std.proofs.Common.{◌*◌, subst, sym}
-use Rattle.calculus_table.specs.Rel.{Has}
+use Rattle.std.proofs.Common.{◌*◌}
 use Rattle.calculus_table.proofs.Sets.{not_Has-empty}
 use Rattle.closure_seq.proofs.Steps.{IsStep-refl}
 use Rattle.closure_seq.proofs.Blocks.{settled-clear}

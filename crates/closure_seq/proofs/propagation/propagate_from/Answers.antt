@@ -1,4 +1,4 @@
-use Rattle.std.proofs.Common.{◌≡◌, ◌*◌, ℕ, sym, ◌∙◌, arith}
+use Rattle.std.proofs.Common.{sym, ◌∙◌, arith}
 use Rattle.closure_seq.proofs.Steps.{IsStep-refl, IsStep-trans, IsReady-step, pair-step}
 use Rattle.closure_seq.proofs.Blocks.{IsPropagated-block}
 use Rattle.closure_seq.proofs.propagation.propagate_from.Goals as goal

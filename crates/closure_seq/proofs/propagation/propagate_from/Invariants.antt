@@ -1,4 +1,4 @@
-use Rattle.std.proofs.Common.{◌≡◌, ◌*◌}
+use Rattle.std.proofs.Common.{◌*◌}
 use Rattle.closure_seq.proofs.Blocks.{IsPropagated}
 use Rattle.closure_seq.proofs.propagation.propagate_from.Given as goal
 

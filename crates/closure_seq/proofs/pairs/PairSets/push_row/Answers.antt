@@ -1,6 +1,6 @@
 use Rattle.std.proofs.Common.{rules, ◌+◌, ap, arith}
 use Rattle.closure_seq.specs.Worklist.{Worklist}
-use Rattle.closure_seq.proofs.Starts.{IsRowBegun, IsRowBegun-skip, IsRowBegun-push, IsBegun-row}
+use Rattle.closure_seq.proofs.Starts.{IsRowBegun, IsRowBegun-skip, IsRowBegun-push}
 use Rattle.closure_seq.proofs.pairs.PairSets.push_row.Goals as goal
 use Rattle.closure_seq.proofs.pairs.PairSets.push_row.Goals.{then-ne, else-ne}
 

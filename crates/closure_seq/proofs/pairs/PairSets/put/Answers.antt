@@ -1,7 +1,7 @@
-use Rattle.std.proofs.Common.{◌≡◌, ◌<◌, ◌≤◌, ℕ, ◌+◌, ◌*◌, ◌++◌, take, drop, length, ap, subst, sym, ◌∙◌, arith}
+use Rattle.std.proofs.Common.{◌≡◌, ◌<◌, ◌+◌, ◌*◌, ◌++◌, take, drop, length, ap, ◌∙◌, arith}
 use Rattle.std.proofs.lemmas.Grind.{common_steps}
 use Rattle.std.specs.Prelude.{slice_index}
-use Rattle.closure_seq.specs.Worklist.{Worklist, AreBytesOf}
+use Rattle.closure_seq.specs.Worklist.{Worklist}
 use Rattle.closure_seq.proofs.Planes.{AreBytesOf-put, IsSized-put}
 use Rattle.closure_seq.proofs.pairs.PairSets.put.Goals as goal
 
