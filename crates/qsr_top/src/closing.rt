@@ -19,6 +19,7 @@ use crate::statuses::Status;
 use crate::stops::Stop;
 use calculus_table::{Calculus, Memory};
 use closure_seq::close;
+use compose_fast::Fast;
 use network_file::text;
 use network_words::Net;
 use qsr_lex::MAX_TEXT;
@@ -71,14 +72,15 @@ pub(crate) fn close_answer<F: Shelf, S: Source>(
     }
 }
 
-/// The text of the network's closure.
+/// The text of the network's closure. It is computed with the calculus' tables, and written with its names.
 fn closed_answer(alloc: Global, mut net: Net, calculus: &Calculus) -> Result<Answer, Memory>
     requires { IsNetwork calculus.now.algebra net.nodes net.words }
     ensures output { IfOk result (λ answer.
         ClosesNetwork calculus.now net (string_bytes answer.text) answer.status) }
     ensures status { IfOk result (λ answer. IsVerdictStatus answer.status) }
 {
-    close(alloc, &mut net, calculus)?;
+    let fast = Fast::new(alloc, calculus)?;
+    close(alloc, &mut net, &fast)?;
     let status = verdict(&net);
     let text = text(alloc, &net, calculus)?;
     Ok(Answer { text, status })
