@@ -1,5 +1,5 @@
 -- How a fault of a part is the fault of the whole.
-use Rattle.std.proofs.Common.{◌≡◌, ◌≢◌, ℕ, List, None, Result, Ok, Err, refl, sym, ap, ◌∙◌, subst}
+use Rattle.std.proofs.Common.{◌≡◌, ◌≢◌, None, Result, Ok, Err, refl, sym, ap, ◌∙◌, subst}
 use Rattle.calculus_table.specs.Calculus.{NamedAlgebra, IsNamedCalculus}
 use Rattle.calculus_table.specs.TableFault.{IsFaultOf}
 use Rattle.calculus_table.specs.declared.calculus.TableFault.{TableFault}

@@ -344,10 +344,9 @@ fn a_table_of_64_relations_is_read_and_written(rt: HostRuntime) -> Result<(), Fa
     let file = sums_text(alloc)?;
     let c = read_all(alloc, file.as_bytes())?;
     assert_eq!(rt; c.full().word(), u64::MAX);
-    assert_eq!(rt;
-        c.compose(Rel::single(63), Rel::single(63)),
-        Rel::single(62)
-    );
+    let last = Rel::single(63);
+    assert!(rt; last.within(c.full()));
+    assert_eq!(rt; c.compose(last, last), Rel::single(62));
     let written = text(alloc, &c).map_err(|_| LoadFault::Memory)?;
     assert_eq!(rt; written, file);
     Ok(())

@@ -1,4 +1,4 @@
-use Rattle.std.proofs.Common.{◌≡◌, [], None, map, ap, sym, ◌∙◌, rules}
+use Rattle.std.proofs.Common.{◌≡◌, [], None, map, rules}
 use Rattle.calculus_load.specs.Names.{repeat_after}
 use Rattle.calculus_load.proofs.NamesRead.{repeat_after-distinct}
 use Rattle.calculus_load.proofs.reading.names_of_line.Goals as goal
