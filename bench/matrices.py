@@ -46,7 +46,7 @@ fn matrices(alloc: Global, rings: &[Ring]) -> io::Result<Vec<Matrix>> {
     let mut all = Vec::new(alloc);
     for i in 0..rings.len() {
         for j in i + 1..rings.len() {
-            all.push(matrix(&rings[i], &rings[j]))?;
+            all.push(matrix(&rings[i], &rings[j]).map_err(|_| io::Error::from(io::ErrorKind::OutOfMemory))?)?;
         }
     }
     Ok(all)

@@ -7,7 +7,7 @@
 //! ring, or where the rings share a stretch of boundary and the inside of both lies at its west. The same holds of the
 //! points in one ring alone.
 
-ghost use Rattle.std.specs.Prelude.{◌≡◌, ℕ, ◌<◌, length, IsTrue};
+ghost use Rattle.std.specs.Prelude.{◌≡◌, ℕ, ◌<◌, length, IsTrue, IsOkAnd};
 ghost use Rattle.poly_exact.specs.Outlines.{IsOutline};
 ghost use Rattle.de9im.specs.Cuts.{IsBoundary};
 ghost use Rattle.de9im.specs.Matrices.{IsMatrix, IsTold, IsUnmetRing, AreRectsApart, given, gathered};
@@ -15,7 +15,7 @@ ghost use Rattle.de9im.specs.Matrices.{IsMatrix, IsTold, IsUnmetRing, AreRectsAp
 use crate::cuts::{Sight, boundary, see};
 use crate::scans::{Contacts, scan};
 use crate::{Dim, Matrix};
-use poly_exact::{HalfPoint, Outline, Rect, Ring, locate};
+use poly_exact::{HalfPoint, Memory, Outline, Rect, Ring, locate};
 
 /// What the boundary of each ring sees of the other.
 #[derive(Clone, Copy)]
@@ -128,15 +128,15 @@ fn relate(a: Outline, b: Outline) -> Matrix
     )
 }
 
-/// The DE-9IM matrix of the areas that two rings bound.
-pub fn matrix(a: &Ring, b: &Ring) -> Matrix
-    ensures { IsMatrix result a.now b.now }
+/// The DE-9IM matrix of the areas that two rings bound. It takes no memory, so the answer is always Ok.
+pub fn matrix(a: &Ring, b: &Ring) -> Result<Matrix, Memory>
+    ensures { IsOkAnd result (λ m. IsMatrix m a.now b.now) }
 {
     let one = a.outline();
     let two = b.outline();
     if are_rects_apart(one.rect, two.rect) {
-        Matrix::APART
+        Ok(Matrix::APART)
     } else {
-        relate(one, two)
+        Ok(relate(one, two))
     }
 }

@@ -24,7 +24,9 @@ fn ring(rt: &(impl Abort + AllocGlobal), text: &str) -> Result<Ring, Fail> {
 
 /// The text of the matrix of two rings, each given by a text.
 fn relation(rt: &(impl Abort + AllocGlobal), a: &str, b: &str) -> Result<String, Fail> {
-    let m = matrix(&ring(rt, a)?, &ring(rt, b)?);
+    let m = matrix(&ring(rt, a)?, &ring(rt, b)?)
+        .ok()
+        .expect(rt, "memory");
     Ok(m.text(rt.alloc()).ok().expect(rt, "memory"))
 }
 
