@@ -136,16 +136,16 @@ written-entry r s hr hs =
 abbrev pub TurnsRule : ℕ → Type 0
 TurnsRule r = (x y : Interval) → holds (converse_at written r) x y ≡ holds r y x
 
-eqb-turned : (a b : ℕ) → eqb a b ≡ eqb b a
-eqb-turned a b = grind (arith, nat_tests)
+eqb-swap : (a b : ℕ) → eqb a b ≡ eqb b a
+eqb-swap a b = grind (arith, nat_tests)
 
-equals-turned : (x y : Interval) → equals x y ≡ equals y x
-equals-turned x y =
-    ap (λ b. b && eqb x.high y.high) (eqb-turned x.low y.low) ∙ ap (λ b. eqb y.low x.low && b) (eqb-turned x.high y.high)
+equals-swap : (x y : Interval) → equals x y ≡ equals y x
+equals-swap x y =
+    ap (λ b. b && eqb x.high y.high) (eqb-swap x.low y.low) ∙ ap (λ b. eqb y.low x.low && b) (eqb-swap x.high y.high)
 
-rules_turned : EachNumber 13 TurnsRule
-rules_turned =
-    (λ x y. refl, (λ x y. refl, (λ x y. refl, (λ x y. refl, (λ x y. refl, (λ x y. refl, (equals-turned, (λ x y. refl, (λ x y. refl, (λ x y. refl, (λ x y. refl, (λ x y. refl, (λ x y. refl, tt)))))))))))))
+rules_of_converses : EachNumber 13 TurnsRule
+rules_of_converses =
+    (λ x y. refl, (λ x y. refl, (λ x y. refl, (λ x y. refl, (λ x y. refl, (λ x y. refl, (equals-swap, (λ x y. refl, (λ x y. refl, (λ x y. refl, (λ x y. refl, (λ x y. refl, (λ x y. refl, tt)))))))))))))
 
 written-rule : FollowsRule written
 written-rule = record {
@@ -153,7 +153,7 @@ written-rule = record {
       (λ h. entry-member r s t (rw e at h), λ c. rw e (Has-entry r s t ht c));
   sound = λ r s t x y z hr hs ht lie.
       rw (written-entry r s hr hs) (Has-entry r s t ht (ComposesByRule-ranked r s t x y z hr hs ht lie));
-  turns = λ r x y hr. each_number-at 13 TurnsRule rules_turned r hr x y;
+  turns = λ r x y hr. each_number-at 13 TurnsRule rules_of_converses r hr x y;
 }
 
 -- Allen's algebra follows the end point rule

@@ -43,8 +43,8 @@ abbrev pub equals : Rule
 equals x y = (x.low == y.low) && (x.high == y.high)
 
 -- the rule of the converse
-abbrev pub turned : Rule → Rule
-turned rule x y = rule y x
+abbrev pub converse_of : Rule → Rule
+converse_of rule x y = rule y x
 
 abbrev pub never : Rule
 never x y = false
@@ -56,7 +56,7 @@ allen_names =
 
 abbrev pub allen_rules : List Rule
 allen_rules =
-    before ∷ meets ∷ overlaps ∷ turned finishes ∷ turned during ∷ starts ∷ equals ∷ turned starts ∷ during ∷ finishes ∷ turned overlaps ∷ turned meets ∷ turned before ∷ []
+    before ∷ meets ∷ overlaps ∷ converse_of finishes ∷ converse_of during ∷ starts ∷ equals ∷ converse_of starts ∷ during ∷ finishes ∷ converse_of overlaps ∷ converse_of meets ∷ converse_of before ∷ []
 
 -- x r y
 abbrev pub holds : ℕ → Rule
@@ -86,7 +86,7 @@ pub record ComposesByRule (r s t : ℕ) : Type 0 where
   pub lie : LieBy r s t x y z
 
 -- the compositions are those of the end point rule; intervals on whatever end points lie in no way that they leave out;
--- and the rule of a converse is the rule turned round
+-- and the rule of a converse is the rule with its intervals swapped
 pub record FollowsRule (m : Algebra) : Type 0 where
   pub composes : (r s t : ℕ) → r < 13 → s < 13 → t < 13 → Has (entry_at m r s) t ↔ ComposesByRule r s t
   pub sound : (r s t : ℕ) (x y z : Interval) → r < 13 → s < 13 → t < 13 → LieBy r s t x y z → Has (entry_at m r s) t
@@ -137,7 +137,7 @@ allen_row r = map (allen_entry r) bases
 unfoldable pub allen_table : List ℕ
 allen_table = flat_map allen_row bases
 
--- the identity is eq, and the order is that of the converses turned round
+-- the identity is eq, and the order is that of the converses, reversed
 abbrev pub allen_algebra : Algebra
 allen_algebra = record {
   size = 13;

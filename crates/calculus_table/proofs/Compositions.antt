@@ -127,7 +127,7 @@ converse-composition m a b k = IsWithin-antisym _ _
           let l : t < m.size = j.composes.below in
           let l' : converse_at m t < m.size = k.table.converse_below t l in
           let twice : converse_at m (converse_at m t) ≡ t = (k.involution t l).twice in
-          let turned : Has (entry_at m (converse_at m s.base) (converse_at m r.base)) (converse_at m (converse_at m t))
+          let of_converses : Has (entry_at m (converse_at m s.base) (converse_at m r.base)) (converse_at m (converse_at m t))
           = subst (λ x. Has (entry_at m x (converse_at m r.base)) (converse_at m (converse_at m t))) (sym s.is_converse)
           (subst (λ y. Has (entry_at m j.first y) (converse_at m (converse_at m t))) (sym r.is_converse)
           (subst (Has (entry_at m j.first j.second)) (sym twice) j.composes.member)) in
@@ -144,7 +144,7 @@ converse-composition m a b k = IsWithin-antisym _ _
                 first_below = r.below;
                 second_below = s.below;
                 below = l';
-                member = (k.converse r.base s.base (converse_at m t) r.below s.below l').1 turned;
+                member = (k.converse r.base s.base (converse_at m t) r.below s.below l').1 of_converses;
               };
             });
           });

@@ -30,7 +30,7 @@ pub record IdentityAt (m : Algebra) (r : ℕ) : Type 0 where
   pub left : entry_at m m.identity r ≡ 2 ^ r
   pub right : entry_at m r m.identity ≡ 2 ^ r
 
--- t is in r;s exactly where its converse is in the composition of the converses, turned round
+-- t is in r;s exactly where its converse is in the composition of the converses in the other order
 abbrev pub ConverseAt : Algebra → ℕ → ℕ → ℕ → Type 0
 ConverseAt m r s t = Has (entry_at m r s) t ↔ Has (entry_at m (converse_at m s) (converse_at m r)) (converse_at m t)
 

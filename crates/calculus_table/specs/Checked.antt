@@ -34,7 +34,7 @@ obeys_involution m r =
 abbrev pub obeys_identity : Algebra → ℕ → Bool
 obeys_identity m r = (entry_at m m.identity r == 2 ^ r) && (entry_at m r m.identity == 2 ^ r)
 
--- t is in r;s as much as its converse in the composition of the converses, turned round
+-- t is in r;s as much as its converse in the composition of the converses in the other order
 abbrev pub obeys_converse : Algebra → ℕ → ℕ → ℕ → Bool
 obeys_converse m r s t =
     bit_at (entry_at m r s) t == bit_at (entry_at m (converse_at m s) (converse_at m r)) (converse_at m t)

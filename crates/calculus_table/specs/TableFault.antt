@@ -15,7 +15,7 @@ IsLawFaultOf m (CycleLaw r s t) =
 IsLawFaultOf m (NameTwice at) = ⊥
 IsLawFaultOf m Memory = ⊥
 
--- the checks before it hold, and its own fails first at this place; want of memory says nothing of the table
+-- the checks before it hold, and its own fails first at this place; out of memory says nothing of the table
 abbrev pub IsFaultOf : List (List ℕ) → Algebra → TableFault → Type 0
 IsFaultOf names m (NameTwice at) = IsFirstRepeat names at
 IsFaultOf names m Memory = Unit {0}

@@ -47,7 +47,8 @@ impl Model for Calculus {
 }
 
 impl Calculus {
-    ghost use Rattle.std.specs.Prelude.{◌≡◌, ◌≢◌, ℕ, ◌+◌, ◌*◌, ◌-◌, ◌^◌, ◌<◌, ◌≤◌, map, length, slice_index, slice_get, IfOk, IfErr, MatchOption, Some};
+    ghost use Rattle.std.specs.Prelude.{◌≡◌, ◌≢◌, ℕ, ◌+◌, ◌*◌, ◌-◌, ◌^◌, ◌<◌, ◌≤◌, map, length};
+    ghost use Rattle.std.specs.Prelude.{slice_index, slice_get, IfOk, IfErr, MatchOption, Some};
     ghost use Rattle.std.specs.String.{string_bytes};
     ghost use Rattle.calculus_table.specs.Rel.{IsWithin};
     ghost use Rattle.calculus_table.specs.Algebra.{Algebra};

@@ -1,5 +1,8 @@
 ghost use Rattle.std.specs.Prelude.{◌≡◌};
-ghost use Rattle.calculus_table.specs.Laws.{CompositionIsMonotone, ConverseIsMonotone, CompositionDistributesLeft, CompositionDistributesRight, ConverseDistributes, ConverseTurnsComposition, ConverseIsInvolution, IdentityIsNeutral, TableFaultIsOne, CalculusHasNoFault};
+ghost use Rattle.calculus_table.specs.Laws.{CompositionIsMonotone, ConverseIsMonotone, CompositionDistributesLeft};
+ghost use Rattle.calculus_table.specs.Laws.{CompositionDistributesRight, ConverseDistributes, ConverseTurnsComposition};
+ghost use Rattle.calculus_table.specs.Laws.{ConverseIsInvolution, IdentityIsNeutral, TableFaultIsOne};
+ghost use Rattle.calculus_table.specs.Laws.{CalculusHasNoFault};
 
 use crate::MAX_BASES;
 

@@ -51,7 +51,8 @@ impl Table {
     ghost use Rattle.calculus_table.specs.Rel.{IsWithin};
     ghost use Rattle.calculus_table.specs.Algebra.{Algebra, converse_at, entry_at};
     ghost use Rattle.calculus_table.specs.Composition.{full_of, row_composition, composition, converse};
-    ghost use Rattle.calculus_table.specs.Calculus.{IsTable, IsCalculus, EachBase, EachTriple, InvolutionAt, IdentityAt, IsFirstBase, IsFirstTriple};
+    ghost use Rattle.calculus_table.specs.Calculus.{IsTable, IsCalculus, EachBase, EachTriple, InvolutionAt};
+    ghost use Rattle.calculus_table.specs.Calculus.{IdentityAt, IsFirstBase, IsFirstTriple};
     ghost use Rattle.calculus_table.specs.TripleLaw.{EachPair, IsFirstPair, ObeysAt};
     ghost use Rattle.calculus_table.specs.TableFault.{IsLawFaultOf};
 
@@ -238,14 +239,14 @@ impl Table {
         ensures { IsTrue result ↔ ObeysAt law self.now r s t }
     {
         let here = self.entry_at(r, s).has(t);
-        let turned = self.converse_at(s);
+        let converse = self.converse_at(s);
         match law {
             TripleLaw::Converse => {
                 here == self
-                    .entry_at(turned, self.converse_at(r))
+                    .entry_at(converse, self.converse_at(r))
                     .has(self.converse_at(t))
             }
-            TripleLaw::Cycle => here == self.entry_at(t, turned).has(r),
+            TripleLaw::Cycle => here == self.entry_at(t, converse).has(r),
         }
     }
 

@@ -127,13 +127,13 @@ fn the_first_fault_is_named(rt: HostRuntime) {
     let alloc = rt.alloc();
     let twice = three_relations(alloc, ["id", "a", "id"], [0, 2, 2], RAMSEY);
     assert_eq!(rt; twice.err(), Some(TableFault::NameTwice { at: 2 }));
-    let turned = three_relations(
+    let one_way = three_relations(
         alloc,
         ["id", "a", "b"],
         [0, 2, 2],
         [1, 2, 6, 2, 5, 6, 4, 6, 3],
     );
-    assert_eq!(rt; turned.err(), Some(TableFault::NotInvolution { r: 1 }));
+    assert_eq!(rt; one_way.err(), Some(TableFault::NotInvolution { r: 1 }));
     let moved = three_relations(
         alloc,
         ["id", "a", "b"],

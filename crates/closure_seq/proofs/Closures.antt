@@ -12,10 +12,10 @@ use Rattle.network_words.specs.Edge.{edge_count, edge_at, IsProperPair, IsProper
 use Rattle.network_words.specs.Network.{IsNetwork, Refines, relation_between}
 use Rattle.network_words.specs.Closure.{IsClosed, IsClosure}
 use Rattle.network_words.proofs.Edges.{edge_at-lt, edge_of}
-use Rattle.network_words.proofs.Networks.{relation_between-straight, relation_between-turned, relation_between-mono}
+use Rattle.network_words.proofs.Networks.{relation_between-forward, relation_between-backward, relation_between-mono}
 use Rattle.network_words.proofs.Pairs.{pair-ordered, pair-first, pair-second, pair-outer}
 use Rattle.network_words.proofs.Refinements.{IsNetwork-refines}
-use Rattle.network_words.proofs.Scenarios.{converse-empty, turned-empty, closed-empty}
+use Rattle.network_words.proofs.Scenarios.{converse-empty, relation_between-empty, closed-empty}
 use Rattle.closure_seq.specs.Worklist.{Worklist}
 use Rattle.closure_seq.specs.Propagation.{IsInStep, IsInside, IsRefinement, HasEmpty, AreClosed}
 
@@ -40,7 +40,7 @@ Refines-inside m n words other work s l inside = record {
       let p = pair-ordered n i j o b in
       let w : IsWithin (relation_between m n other i j) (relation_between m n words i j) =
       rw (← s.sets i j p, ← s.nodes) (inside i j (subst (λ k. IsProperPair k i j) (sym s.nodes) p)) in
-      rw (relation_between-straight m n other i j o, relation_between-straight m n words i j o) at w);
+      rw (relation_between-forward m n other i j o, relation_between-forward m n words i j o) at w);
 }
 
 module _ (m : Algebra) (n : ℕ) (words closure : List ℕ) (a b : Worklist) (net : IsNetwork m n words) (start : IsInStep m n words a) (r : IsRefinement m a b) where
@@ -84,15 +84,15 @@ module _ (m : Algebra) (n : ℕ) (words closure : List ℕ) (a b : Worklist) (ne
     where
       all-empty : (i k : ℕ) → relation_between m n closure i k ≡ 0
       all-empty i k = elim (cases_lt i k) [
-        | inl h ↦ relation_between-straight m n closure i k h ∙ z (edge_at n i k)
-        | inr h ↦ relation_between-turned m n closure i k h ∙ ap (converse m) (z (edge_at n k i)) ∙ converse-empty m
+        | inl h ↦ relation_between-forward m n closure i k h ∙ z (edge_at n i k)
+        | inr h ↦ relation_between-backward m n closure i k h ∙ ap (converse m) (z (edge_at n k i)) ∙ converse-empty m
       ]
 
       gone : (other : List ℕ) (i k : ℕ) → IsCalculus m → IsNetwork m n other → IsClosed m n other → IsProperPair n i k → relation_between m n other i k ≡ 0 → (e : ℕ) → slice_index other e ≡ 0
       gone other i k c other-net closed p at e = elim (cases_lt i k) [
-        | inl o ↦ closed-empty m n (edge_at n i k) other c other-net closed (edge_at-lt n i k o p.second_below) (sym (relation_between-straight m n other i k o) ∙ at) e
+        | inl o ↦ closed-empty m n (edge_at n i k) other c other-net closed (edge_at-lt n i k o p.second_below) (sym (relation_between-forward m n other i k o) ∙ at) e
         | inr g ↦
             (let o : k < i = omega (arith, p.differ) in
             closed-empty m n (edge_at n k i) other c other-net closed (edge_at-lt n k i o p.first_below)
-            (sym (relation_between-straight m n other k i o) ∙ turned-empty m n other i k c other-net p.differ at) e)
+            (sym (relation_between-forward m n other k i o) ∙ relation_between-empty m n other i k c other-net p.differ at) e)
       ]

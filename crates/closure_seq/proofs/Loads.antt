@@ -9,7 +9,7 @@ use Rattle.calculus_table.specs.Calculus.{IsCalculus}
 use Rattle.network_words.specs.Edge.{edge_count, edge_at, IsProperPair, IsSamePair}
 use Rattle.network_words.specs.Network.{Network, IsNetwork, relation_between}
 use Rattle.network_words.proofs.Edges.{edge_at-lt, edge_at-first, edge_at-second}
-use Rattle.network_words.proofs.Networks.{relation_between-straight, relation_between-turned, relation_between-within, relation_between-converse}
+use Rattle.network_words.proofs.Networks.{relation_between-forward, relation_between-backward, relation_between-within, relation_between-converse}
 use Rattle.network_words.proofs.Pairs.{pair-ordered, pair-swap}
 use Rattle.closure_seq.specs.Worklist.{Worklist, IsSized, set_of, with_pair}
 use Rattle.closure_seq.specs.Propagation.{AreConverses, IsInStep, IsPairLoaded, IsLoaded, IsStored}
@@ -131,9 +131,9 @@ pub IsInStep-stored : (m : Algebra) (n : ℕ) (words : List ℕ) (work : Worklis
 IsInStep-stored m n words work e s p = record {
   nodes = e;
   sets = λ i j q. elim (cases_lt i j) [
-    | inl o ↦ sym (relation_between-straight m n words i j o ∙ p i j q.first_below o q.second_below)
+    | inl o ↦ sym (relation_between-forward m n words i j o ∙ p i j q.first_below o q.second_below)
     | inr g ↦
         (let o : j < i = omega (arith, q.differ) in
-        sym (relation_between-turned m n words i j g ∙ ap (converse m) (p j i q.second_below o q.first_below) ∙ sym (s.converse j i (subst (λ k. IsProperPair k j i) (sym e) (pair-swap n i j q)))))
+        sym (relation_between-backward m n words i j g ∙ ap (converse m) (p j i q.second_below o q.first_below) ∙ sym (s.converse j i (subst (λ k. IsProperPair k j i) (sym e) (pair-swap n i j q)))))
   ];
 }

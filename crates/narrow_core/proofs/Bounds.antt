@@ -27,7 +27,7 @@ use Rattle.narrow_core.proofs.Cores.{same_actor, live_here, live-set, live-more,
 
 -- ---- a step of one actor
 
--- what a step of one actor gives: the words and the actor after it
+-- what a step of one actor leaves: the words and the actor after it
 pub record Move (m : Algebra) (n : ℕ) (words after : List ℕ) (a b : ActorState) : Type 0 where
   pub live : b.is_live ≡ a.is_live
   pub weight : b.weight ≡ a.weight

@@ -13,9 +13,9 @@ use Rattle.calculus_table.proofs.Compositions.{converse-mono}
 use Rattle.network_words.specs.declared.fact.Fact.{Fact}
 use Rattle.network_words.specs.Edge.{edge_between}
 use Rattle.network_words.specs.Network.{IsNetwork, Refines, relation_between}
-use Rattle.network_words.proofs.Edges.{edge_between-straight, edge_between-turned}
+use Rattle.network_words.proofs.Edges.{edge_between-forward, edge_between-backward}
 pub use Rattle.network_words.proofs.Pairs.{edge_between-lt}
-use Rattle.network_words.proofs.Networks.{set-cases, relation_between-mono, relation_between-straight, relation_between-turned}
+use Rattle.network_words.proofs.Networks.{set-cases, relation_between-mono, relation_between-forward, relation_between-backward}
 use Rattle.narrow_core.specs.Actor.{met_words}
 use Rattle.narrow_core.specs.Machine.{AreSets}
 use Rattle.narrow_core.specs.Bound.{IsWithinFact}
@@ -31,8 +31,8 @@ facts-mono m n xs ys facts w = All-weaker (IsWithinFact m n ys) (IsWithinFact m 
 pub relation_between-edge : (m : Algebra) (n : ℕ) (xs ys : List ℕ) (i j : ℕ) →
     IsWithin (slice_index xs (edge_between n i j)) (slice_index ys (edge_between n i j)) → IsWithin (relation_between m n xs i j) (relation_between m n ys i j)
 relation_between-edge m n xs ys i j w = elim (cases_lt i j) [
-  | inl o ↦ rw (relation_between-straight m n xs i j o, relation_between-straight m n ys i j o) (rw (edge_between-straight n i j o) at w)
-  | inr o ↦ rw (relation_between-turned m n xs i j o, relation_between-turned m n ys i j o) (converse-mono m _ _ (rw (edge_between-turned n i j o) at w))
+  | inl o ↦ rw (relation_between-forward m n xs i j o, relation_between-forward m n ys i j o) (rw (edge_between-forward n i j o) at w)
+  | inr o ↦ rw (relation_between-backward m n xs i j o, relation_between-backward m n ys i j o) (converse-mono m _ _ (rw (edge_between-backward n i j o) at w))
 ]
 
 -- ---- one edge seen

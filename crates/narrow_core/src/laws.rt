@@ -1,4 +1,5 @@
-ghost use Rattle.narrow_core.specs.Laws.{EveryScheduleKeepsTheBound, TheWholeWeightIsAlone, TheBoundMakesAlone, EveryStepKeepsTheBound};
+ghost use Rattle.narrow_core.specs.Laws.{EveryScheduleKeepsTheBound, TheWholeWeightIsAlone, TheBoundMakesAlone};
+ghost use Rattle.narrow_core.specs.Laws.{EveryStepKeepsTheBound};
 
 /// What holds after every list of events from the opening of the machine, however the steps of its
 /// actors interleave, and of every machine that keeps the bound.

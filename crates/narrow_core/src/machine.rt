@@ -52,14 +52,16 @@ impl Model for Core {
 }
 
 impl Core {
-    ghost use Rattle.std.specs.Prelude.{◌≡◌, ℕ, ◌<◌, ◌↔◌, ◌^◌, length, take, slice_index, IfOk, OnErr, OnOk, IsTrue, Some, MatchOption};
+    ghost use Rattle.std.specs.Prelude.{◌≡◌, ℕ, ◌<◌, ◌↔◌, ◌^◌, length, take, slice_index, IfOk, OnErr, OnOk, IsTrue};
+    ghost use Rattle.std.specs.Prelude.{Some, MatchOption};
     ghost use Rattle.calculus_table.specs.Rel.{IsWithin};
     ghost use Rattle.calculus_table.specs.Algebra.{Algebra};
     ghost use Rattle.calculus_table.specs.Composition.{full_of};
     ghost use Rattle.network_words.specs.Edge.{IsProperPair};
     ghost use Rattle.narrow_core.specs.Actor.{IsLiveAt};
     ghost use Rattle.narrow_core.specs.Machine.{CoreState, IsCore, IsProperFact, SameOpening, opened};
-    ghost use Rattle.narrow_core.specs.Event.{IsAllowed, IsStep, HasLive, HasMore, MayAssert, MayRead, MayNarrow, MaySplit, MayJoin, Asserts, Reads, Narrows, Splits, Joins};
+    ghost use Rattle.narrow_core.specs.Event.{IsAllowed, IsStep, HasLive, HasMore, MayAssert, MayRead, MayNarrow};
+    ghost use Rattle.narrow_core.specs.Event.{MaySplit, MayJoin, Asserts, Reads, Narrows, Splits, Joins};
     ghost use Rattle.narrow_core.specs.Run.{IsRun, StopsAt, TakesMemory, WantsMemory};
     ghost use Rattle.narrow_core.specs.Bound.{Bound};
 
@@ -107,7 +109,9 @@ impl Core {
 
     /// The live actor of this number.
     pub fn actor(&self, number: u32) -> Option<&Actor>
-        ensures { MatchOption result (¬ HasLive self.now number) (λ a. IsLiveAt self.now.actors number a.now) }
+        ensures { MatchOption result
+            (¬ HasLive self.now number)
+            (λ a. IsLiveAt self.now.actors number a.now) }
     {
         let found = self.actors.get(number as usize)?;
         if found.is_live() { Some(found) } else { None }
@@ -161,7 +165,8 @@ impl Core {
     pub fn run<C: Compose>(&mut self, c: &C, events: &[Event]) -> Result<u32, Memory>
         requires full { self.old.full ≡ full_of (C.algebra c.now) }
         requires few { length events.now < 2 ^ 32 }
-        ensures ran { IfOk result (λ steps. IsRun (C.algebra c.now) (take steps events.now) self.old self.new) }
+        ensures ran { IfOk result (λ steps.
+            IsRun (C.algebra c.now) (take steps events.now) self.old self.new) }
         ensures stops { IfOk result (λ steps. StopsAt events.now steps self.new) }
         ensures bound { Bound (C.algebra c.now) self.old → Bound (C.algebra c.now) self.new }
         ensures memory { OnErr result (WantsMemory (C.algebra c.now) events.now self.old self.new) }

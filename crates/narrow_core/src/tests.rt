@@ -98,7 +98,7 @@ fn narrowing_composes_along_a_third_node(rt: HostRuntime) -> Result<(), Fail> {
 }
 
 #[test]
-fn pairs_the_other_way_round_are_turned(rt: HostRuntime) -> Result<(), Fail> {
+fn the_other_way_round_a_pair_has_the_converse(rt: HostRuntime) -> Result<(), Fail> {
     let c = point(rt.alloc())?;
     let mut core = open(rt.alloc(), &c, 1)?;
     let events = [

@@ -186,8 +186,8 @@ all_allow : (c : NamedAlgebra) (net : Network) (i j t : ℕ) (ps : List (ℕ × 
 all_allow c net i j t [] o h pairs = tt
 all_allow c net i j t (p ∷ ps) o h pairs = (
   record {
-    straight = λ x y. subst (λ q. Has (slice_index net.words (edge_at net.nodes p.0 q)) t) (sym y) (subst (λ q. Has (slice_index net.words (edge_at net.nodes q j)) t) (sym x) h);
-    turned = λ x y. absurd (omega (arith, pairs.0.order));
+    forward = λ x y. subst (λ q. Has (slice_index net.words (edge_at net.nodes p.0 q)) t) (sym y) (subst (λ q. Has (slice_index net.words (edge_at net.nodes q j)) t) (sym x) h);
+    backward = λ x y. absurd (omega (arith, pairs.0.order));
   },
   all_allow c net i j t ps o h pairs.1,
 )
@@ -195,7 +195,7 @@ all_allow c net i j t (p ∷ ps) o h pairs = (
 allowed_at : (c : NamedAlgebra) (net : Network) (i j t : ℕ) (ps : List (ℕ × ℕ)) → Among i j ps → AllByRecursion (Allows c.algebra i j t) (map (fact_at net) ps) → Has (slice_index net.words (edge_at net.nodes i j)) t
 allowed_at c net i j t [] m h = absurd m
 allowed_at c net i j t (p ∷ ps) m h = elim m [
-  | inl here ↦ subst (λ q. Has (slice_index net.words (edge_at net.nodes i q)) t) here.1 (subst (λ q. Has (slice_index net.words (edge_at net.nodes q p.1)) t) here.0 (h.0.straight here.0 here.1))
+  | inl here ↦ subst (λ q. Has (slice_index net.words (edge_at net.nodes i q)) t) here.1 (subst (λ q. Has (slice_index net.words (edge_at net.nodes q p.1)) t) here.0 (h.0.forward here.0 here.1))
   | inr later ↦ allowed_at c net i j t ps later h.1
 ]
 

@@ -94,11 +94,11 @@ edge_at-order n i j k l o b p q = (
 )
 
 -- the edge between two nodes, by their order
-pub edge_between-straight : (n i j : ℕ) → i < j → edge_between n i j ≡ edge_at n i j
-edge_between-straight n i j h = ap (λ b. cond b (edge_at n i j) (edge_at n j i)) (lt-ltb i j h)
+pub edge_between-forward : (n i j : ℕ) → i < j → edge_between n i j ≡ edge_at n i j
+edge_between-forward n i j h = ap (λ b. cond b (edge_at n i j) (edge_at n j i)) (lt-ltb i j h)
 
-pub edge_between-turned : (n i j : ℕ) → j ≤ i → edge_between n i j ≡ edge_at n j i
-edge_between-turned n i j h = ap (λ b. cond b (edge_at n i j) (edge_at n j i)) (le-ltb i j h)
+pub edge_between-backward : (n i j : ℕ) → j ≤ i → edge_between n i j ≡ edge_at n j i
+edge_between-backward n i j h = ap (λ b. cond b (edge_at n i j) (edge_at n j i)) (le-ltb i j h)
 
 edge_below : (n k e : ℕ) → k ≤ n → e < row_start n k → EdgeOf n e
 unfolding row_start

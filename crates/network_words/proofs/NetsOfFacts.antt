@@ -92,17 +92,17 @@ pub narrowed_at-members : (m : Algebra) (n : ℕ) (words : List ℕ) (f : Fact) 
     Has (slice_index (narrowed_at m n words f.i f.j f.rel) (edge_at n a b)) t ↔ Has (slice_index words (edge_at n a b)) t × Allows m a b t f
 narrowed_at-members m n words f a b t l p o e = elim (cases_lt f.i f.j) [
   | inl up ↦ rw (lt-ltb f.i f.j up) (met-members m n words f.i f.j f.rel a b t f l up p.second_below o e (record {
-    here = λ first second h. record { straight = λ _ _. h; turned = λ x y. absurd (omega arith) };
-    back = λ first second allows. allows.straight first second;
-    other = λ elsewhere. record { straight = λ x y. absurd (elsewhere x y); turned = λ x y. absurd (omega arith) };
+    here = λ first second h. record { forward = λ _ _. h; backward = λ x y. absurd (omega arith) };
+    back = λ first second allows. allows.forward first second;
+    other = λ elsewhere. record { forward = λ x y. absurd (elsewhere x y); backward = λ x y. absurd (omega arith) };
   }))
   | inr down ↦
       (let differ : f.i ≢ f.j = p.differ in
-      let turned : f.j < f.i = omega arith in
-      rw (le-ltb f.i f.j down) (met-members m n words f.j f.i (converse m f.rel) a b t f l turned p.first_below o e (record {
-        here = λ first second h. record { straight = λ x y. absurd (omega arith); turned = λ _ _. h };
-        back = λ first second allows. allows.turned second first;
-        other = λ elsewhere. record { straight = λ x y. absurd (omega arith); turned = λ x y. absurd (elsewhere y x) };
+      let backward : f.j < f.i = omega arith in
+      rw (le-ltb f.i f.j down) (met-members m n words f.j f.i (converse m f.rel) a b t f l backward p.first_below o e (record {
+        here = λ first second h. record { forward = λ x y. absurd (omega arith); backward = λ _ _. h };
+        back = λ first second allows. allows.backward second first;
+        other = λ elsewhere. record { forward = λ x y. absurd (omega arith); backward = λ x y. absurd (elsewhere y x) };
       })))
 ]
 

@@ -1,4 +1,4 @@
--- Networks by their pairs: how a set of a pair turns, what meeting it does, and when a network is closed.
+-- Networks by their pairs: the set of a pair either way round, what narrowing it does, and when a network is closed.
 use Rattle.std.proofs.Common.{◌≡◌, ◌≢◌, ℕ, ◌<◌, ◌≤◌, cond, List, length, get_or, set, refl, sym, ◌∙◌, ap, subst, arith, ◌⊎◌, inl, inr}
 use Rattle.std.specs.Prelude.{bit_and, slice_index, slice_set}
 use Rattle.std.proofs.lemmas.Bool.{cases_lt, cases_eq, lt-ltb, le-ltb}
@@ -29,30 +29,30 @@ Refines-antisym xs ys l p q = same_number_lists xs ys l (λ k b. IsWithin-antisy
 
 -- ---- the set of a pair
 
-pub relation_between-straight : (m : Algebra) (n : ℕ) (words : List ℕ) (i j : ℕ) → i < j → relation_between m n words i j ≡ slice_index words (edge_at n i j)
-relation_between-straight m n words i j h = ap (λ b. cond b (slice_index words (edge_at n i j)) (converse m (slice_index words (edge_at n j i)))) (lt-ltb i j h)
+pub relation_between-forward : (m : Algebra) (n : ℕ) (words : List ℕ) (i j : ℕ) → i < j → relation_between m n words i j ≡ slice_index words (edge_at n i j)
+relation_between-forward m n words i j h = ap (λ b. cond b (slice_index words (edge_at n i j)) (converse m (slice_index words (edge_at n j i)))) (lt-ltb i j h)
 
-pub relation_between-turned : (m : Algebra) (n : ℕ) (words : List ℕ) (i j : ℕ) → j ≤ i → relation_between m n words i j ≡ converse m (slice_index words (edge_at n j i))
-relation_between-turned m n words i j h = ap (λ b. cond b (slice_index words (edge_at n i j)) (converse m (slice_index words (edge_at n j i)))) (le-ltb i j h)
+pub relation_between-backward : (m : Algebra) (n : ℕ) (words : List ℕ) (i j : ℕ) → j ≤ i → relation_between m n words i j ≡ converse m (slice_index words (edge_at n j i))
+relation_between-backward m n words i j h = ap (λ b. cond b (slice_index words (edge_at n i j)) (converse m (slice_index words (edge_at n j i)))) (le-ltb i j h)
 
 pub relation_between-within : (m : Algebra) (n : ℕ) (words : List ℕ) (i j : ℕ) → IsTable m → IsNetwork m n words → IsWithin (relation_between m n words i j) (full_of m)
 relation_between-within m n words i j k w = elim (cases_lt i j) [
-  | inl h ↦ rw (relation_between-straight m n words i j h) (w.within (edge_at n i j))
-  | inr h ↦ rw (relation_between-turned m n words i j h) (converse-within m _ k)
+  | inl h ↦ rw (relation_between-forward m n words i j h) (w.within (edge_at n i j))
+  | inr h ↦ rw (relation_between-backward m n words i j h) (converse-within m _ k)
 ]
 
 pub relation_between-mono : (m : Algebra) (n : ℕ) (xs ys : List ℕ) (i j : ℕ) → Refines xs ys → IsWithin (relation_between m n xs i j) (relation_between m n ys i j)
 relation_between-mono m n xs ys i j w = elim (cases_lt i j) [
-  | inl h ↦ rw (relation_between-straight m n xs i j h, relation_between-straight m n ys i j h) (w.each (edge_at n i j))
-  | inr h ↦ rw (relation_between-turned m n xs i j h, relation_between-turned m n ys i j h) (converse-mono m _ _ (w.each (edge_at n j i)))
+  | inl h ↦ rw (relation_between-forward m n xs i j h, relation_between-forward m n ys i j h) (w.each (edge_at n i j))
+  | inr h ↦ rw (relation_between-backward m n xs i j h, relation_between-backward m n ys i j h) (converse-mono m _ _ (w.each (edge_at n j i)))
 ]
 
--- the set of the pair turned round is the converse
+-- the set of the pair the other way round is the converse
 pub relation_between-converse : (m : Algebra) (n : ℕ) (words : List ℕ) (i j : ℕ) → IsCalculus m → IsNetwork m n words → i ≢ j → relation_between m n words j i ≡ converse m (relation_between m n words i j)
 relation_between-converse m n words i j k w d = elim (cases_lt i j) [
-  | inl h ↦ rw (relation_between-straight m n words i j h, relation_between-turned m n words j i (omega arith)) refl
+  | inl h ↦ rw (relation_between-forward m n words i j h, relation_between-backward m n words j i (omega arith)) refl
   | inr h ↦ (let o : j < i = omega arith in
-      rw (relation_between-straight m n words j i o, relation_between-turned m n words i j h) (sym (converse-converse m _ k (w.within (edge_at n j i)))))
+      rw (relation_between-forward m n words j i o, relation_between-backward m n words i j h) (sym (converse-converse m _ k (w.within (edge_at n j i)))))
 ]
 
 -- ---- one set met
@@ -88,37 +88,37 @@ met_word-keeps xs words e x w h = record {
   ];
 }
 
-narrowed_at-straight : (m : Algebra) (n : ℕ) (words : List ℕ) (i j x : ℕ) → i < j → narrowed_at m n words i j x ≡ met_word words (edge_at n i j) x
+narrowed_at-forward : (m : Algebra) (n : ℕ) (words : List ℕ) (i j x : ℕ) → i < j → narrowed_at m n words i j x ≡ met_word words (edge_at n i j) x
 unfolding met_word
-narrowed_at-straight m n words i j x h = ap (λ b. cond b (met_word words (edge_at n i j) x) (met_word words (edge_at n j i) (converse m x))) (lt-ltb i j h)
+narrowed_at-forward m n words i j x h = ap (λ b. cond b (met_word words (edge_at n i j) x) (met_word words (edge_at n j i) (converse m x))) (lt-ltb i j h)
 
-narrowed_at-turned : (m : Algebra) (n : ℕ) (words : List ℕ) (i j x : ℕ) → j ≤ i → narrowed_at m n words i j x ≡ met_word words (edge_at n j i) (converse m x)
+narrowed_at-backward : (m : Algebra) (n : ℕ) (words : List ℕ) (i j x : ℕ) → j ≤ i → narrowed_at m n words i j x ≡ met_word words (edge_at n j i) (converse m x)
 unfolding met_word
-narrowed_at-turned m n words i j x h = ap (λ b. cond b (met_word words (edge_at n i j) x) (met_word words (edge_at n j i) (converse m x))) (le-ltb i j h)
+narrowed_at-backward m n words i j x h = ap (λ b. cond b (met_word words (edge_at n i j) x) (met_word words (edge_at n j i) (converse m x))) (le-ltb i j h)
 
 pub length-narrowed_at : (m : Algebra) (n : ℕ) (words : List ℕ) (i j x : ℕ) → length (narrowed_at m n words i j x) ≡ length words
 unfolding met_word
 length-narrowed_at m n words i j x = elim (cases_lt i j) [
-  | inl h ↦ rw (narrowed_at-straight m n words i j x h) (length-set words (edge_at n i j) (bit_and (slice_index words (edge_at n i j)) x))
-  | inr h ↦ rw (narrowed_at-turned m n words i j x h) (length-set words (edge_at n j i) (bit_and (slice_index words (edge_at n j i)) (converse m x)))
+  | inl h ↦ rw (narrowed_at-forward m n words i j x h) (length-set words (edge_at n i j) (bit_and (slice_index words (edge_at n i j)) x))
+  | inr h ↦ rw (narrowed_at-backward m n words i j x h) (length-set words (edge_at n j i) (bit_and (slice_index words (edge_at n j i)) (converse m x)))
 ]
 
 -- meeting a set makes no set greater
 pub narrowed_at-within : (m : Algebra) (n : ℕ) (words : List ℕ) (i j x : ℕ) → Refines (narrowed_at m n words i j x) words
 narrowed_at-within m n words i j x = elim (cases_lt i j) [
-  | inl h ↦ rw (narrowed_at-straight m n words i j x h) (met_word-within words (edge_at n i j) x)
-  | inr h ↦ rw (narrowed_at-turned m n words i j x h) (met_word-within words (edge_at n j i) (converse m x))
+  | inl h ↦ rw (narrowed_at-forward m n words i j x h) (met_word-within words (edge_at n i j) x)
+  | inr h ↦ rw (narrowed_at-backward m n words i j x h) (met_word-within words (edge_at n j i) (converse m x))
 ]
 
 -- a network within the words whose set of the pair is within x stays within
 pub narrowed_at-keeps : (m : Algebra) (n : ℕ) (xs words : List ℕ) (i j x : ℕ) → IsCalculus m → IsNetwork m n xs → Refines xs words → IsWithin (relation_between m n xs i j) x → Refines xs (narrowed_at m n words i j x)
 narrowed_at-keeps m n xs words i j x k net w h = elim (cases_lt i j) [
-  | inl o ↦ rw (narrowed_at-straight m n words i j x o)
-      (met_word-keeps xs words (edge_at n i j) x w (rw (relation_between-straight m n xs i j o) at h))
-  | inr o ↦ rw (narrowed_at-turned m n words i j x o)
+  | inl o ↦ rw (narrowed_at-forward m n words i j x o)
+      (met_word-keeps xs words (edge_at n i j) x w (rw (relation_between-forward m n xs i j o) at h))
+  | inr o ↦ rw (narrowed_at-backward m n words i j x o)
       (met_word-keeps xs words (edge_at n j i) (converse m x) w
       (subst (λ y. IsWithin y (converse m x)) (converse-converse m (slice_index xs (edge_at n j i)) k (net.within (edge_at n j i)))
-      (converse-mono m _ _ (rw (relation_between-turned m n xs i j o) at h))))
+      (converse-mono m _ _ (rw (relation_between-backward m n xs i j o) at h))))
 ]
 
 -- the converse of what two sets of base relations share
@@ -140,11 +140,11 @@ pub relation_between-narrowed_at : (m : Algebra) (n : ℕ) (words : List ℕ) (i
     relation_between m n (narrowed_at m n words i j x) i j ≡ bit_and (relation_between m n words i j) x
 relation_between-narrowed_at m n words i j x k net p f = elim (cases_lt i j) [
   | inl o ↦ (let b : edge_at n i j < length words = omega (arith, net.length_is, edge_at-lt n i j o p.second_below) in
-      rw (narrowed_at-straight m n words i j x o) (rw (relation_between-straight m n (met_word words (edge_at n i j) x) i j o, relation_between-straight m n words i j o) (met_word-index words (edge_at n i j) x b)))
+      rw (narrowed_at-forward m n words i j x o) (rw (relation_between-forward m n (met_word words (edge_at n i j) x) i j o, relation_between-forward m n words i j o) (met_word-index words (edge_at n i j) x b)))
   | inr o ↦ (let d : i ≢ j = p.differ in
       let o' : j < i = omega arith in
       let b : edge_at n j i < length words = omega (arith, net.length_is, edge_at-lt n j i o' p.first_below) in
-      rw (narrowed_at-turned m n words i j x o) (rw (relation_between-turned m n (met_word words (edge_at n j i) (converse m x)) i j o, relation_between-turned m n words i j o)
+      rw (narrowed_at-backward m n words i j x o) (rw (relation_between-backward m n (met_word words (edge_at n j i) (converse m x)) i j o, relation_between-backward m n words i j o)
       (ap (converse m) (met_word-index words (edge_at n j i) (converse m x) b)
       ∙ converse-meet m (slice_index words (edge_at n j i)) (converse m x) k (net.within (edge_at n j i)) (converse-within m x k.table)
       ∙ ap (bit_and (converse m (slice_index words (edge_at n j i)))) (converse-converse m x k f))))

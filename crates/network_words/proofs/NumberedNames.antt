@@ -84,7 +84,7 @@ found-stands text names at = by (nat_lt first (length names)) refl
     by true e h = subst (λ i. slice_get (map string_bytes names) i ≡ Some text) (same_some h) (first-stands text names (ltb-true first (length names) e))
     by false e h = absurd (true≢false (sym (ap is_some h)))
 
--- what a look-up by a text answers
+-- what a look-up by a text returns
 pub looked_up : (text : List ℕ) (names : List (String Global)) (r : Option ℕ) → r ≡ position (λ name. bytes_eq text (string_bytes name)) names → is_some r ≡ is_among text names →
     MatchOption r ((k : ℕ) → slice_get (map string_bytes names) k ≢ Some text) (λ k. slice_get (map string_bytes names) k ≡ Some text)
 looked_up text names None e f = λ k there. absurd (true≢false (sym (stands-among text names k there) ∙ sym f))

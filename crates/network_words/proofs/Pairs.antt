@@ -2,7 +2,7 @@
 use Rattle.std.proofs.Common.{◌≡◌, ◌≢◌, ℕ, ◌<◌, cond, ltb, sym, ◌∙◌, arith, ◌⊎◌, inl, inr}
 use Rattle.std.proofs.lemmas.Bool.{cases_lt, cases_eq, lt-ltb, le-ltb}
 use Rattle.network_words.specs.Edge.{edge_count, edge_at, edge_between, IsSamePair, IsProperPair, IsProperTriple}
-use Rattle.network_words.proofs.Edges.{edge_at-lt, edge_at-first, edge_at-second, edge_between-straight, edge_between-turned}
+use Rattle.network_words.proofs.Edges.{edge_at-lt, edge_at-first, edge_at-second, edge_between-forward, edge_between-backward}
 
 -- ---- pairs and triples
 
@@ -35,14 +35,14 @@ triple-swap n i j k t = record {
 
 pub edge_between-swap : (n i j : ℕ) → i ≢ j → edge_between n i j ≡ edge_between n j i
 edge_between-swap n i j d = elim (cases_lt i j) [
-  | inl h ↦ edge_between-straight n i j h ∙ sym (edge_between-turned n j i (omega arith))
-  | inr h ↦ edge_between-turned n i j h ∙ sym (edge_between-straight n j i (omega arith))
+  | inl h ↦ edge_between-forward n i j h ∙ sym (edge_between-backward n j i (omega arith))
+  | inr h ↦ edge_between-backward n i j h ∙ sym (edge_between-forward n j i (omega arith))
 ]
 
 pub edge_between-lt : (n i j : ℕ) → IsProperPair n i j → edge_between n i j < edge_count n
 edge_between-lt n i j p = elim (cases_lt i j) [
-  | inl h ↦ rw (edge_between-straight n i j h) (edge_at-lt n i j h p.second_below)
-  | inr h ↦ rw (edge_between-turned n i j h) (edge_at-lt n j i (let d : i ≢ j = p.differ in omega arith) p.first_below)
+  | inl h ↦ rw (edge_between-forward n i j h) (edge_at-lt n i j h p.second_below)
+  | inr h ↦ rw (edge_between-backward n i j h) (edge_at-lt n j i (let d : i ≢ j = p.differ in omega arith) p.first_below)
 ]
 
 -- what numbers ordered pairs apart, taken of the lesser node first, numbers pairs apart

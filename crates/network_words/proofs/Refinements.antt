@@ -13,9 +13,9 @@ use Rattle.calculus_table.proofs.Compositions.{composition-within, converse-mono
 use Rattle.network_words.specs.Edge.{edge_count, edge_at, edge_between, IsSamePair, IsProperPair, IsProperTriple}
 use Rattle.network_words.specs.Network.{IsNetwork, Refines, relation_between, narrowed_at}
 use Rattle.network_words.specs.Closure.{IsClosedAt, IsPairClosed, IsRangeClosed, IsClosed, KeepsClosed, IsClosure}
-use Rattle.network_words.proofs.Edges.{edge_at-lt, edge_between-straight, edge_between-turned}
+use Rattle.network_words.proofs.Edges.{edge_at-lt, edge_between-forward, edge_between-backward}
 use Rattle.network_words.proofs.Pairs.{pair-outer, pair-first, pair-second, pair-from_edge}
-use Rattle.network_words.proofs.Networks.{Refines-refl, Refines-trans, narrow-keeps, narrowed_at-within, length-narrowed_at, relation_between-straight, relation_between-turned, relation_between-converse, relation_between-narrowed_at, IsClosed-ordered}
+use Rattle.network_words.proofs.Networks.{Refines-refl, Refines-trans, narrow-keeps, narrowed_at-within, length-narrowed_at, relation_between-forward, relation_between-backward, relation_between-converse, relation_between-narrowed_at, IsClosed-ordered}
 
 -- ---- sums
 
@@ -104,8 +104,8 @@ IsClosure-through m n old new closure net p c = record {
 -- the set of a pair by its edge alone
 pub relation_between-same : (m : Algebra) (n : ℕ) (xs ys : List ℕ) (a b : ℕ) → slice_index xs (edge_between n a b) ≡ slice_index ys (edge_between n a b) → relation_between m n xs a b ≡ relation_between m n ys a b
 relation_between-same m n xs ys a b e = elim (cases_lt a b) [
-  | inl h ↦ relation_between-straight m n xs a b h ∙ (rw (edge_between-straight n a b h) at e) ∙ sym (relation_between-straight m n ys a b h)
-  | inr h ↦ relation_between-turned m n xs a b h ∙ ap (converse m) (rw (edge_between-turned n a b h) at e) ∙ sym (relation_between-turned m n ys a b h)
+  | inl h ↦ relation_between-forward m n xs a b h ∙ (rw (edge_between-forward n a b h) at e) ∙ sym (relation_between-forward m n ys a b h)
+  | inr h ↦ relation_between-backward m n xs a b h ∙ ap (converse m) (rw (edge_between-backward n a b h) at e) ∙ sym (relation_between-backward m n ys a b h)
 ]
 
 -- the sets of other edges stay

@@ -16,7 +16,7 @@ use Rattle.network_words.specs.Network.{IsNetwork, Refines, relation_between}
 use Rattle.network_words.specs.Closure.{IsClosed, IsClosure}
 use Rattle.network_words.specs.Scenario.{IsScenario, as_network}
 use Rattle.network_words.proofs.Edges.{EdgeOf, edge_of, edge_at-lt}
-use Rattle.network_words.proofs.Networks.{relation_between-straight, relation_between-turned, relation_between-converse, IsClosed-ordered}
+use Rattle.network_words.proofs.Networks.{relation_between-forward, relation_between-backward, relation_between-converse, IsClosed-ordered}
 
 -- ---- single sets
 
@@ -39,11 +39,11 @@ single-entry m r s t k h =
 
 -- ---- the three turns of a triple of base relations
 
--- t in r;s gives r in t;(the converse of s)
+-- from t in r;s follows r in t;(the converse of s)
 turn-right : (m : Algebra) (r s t : ℕ) → IsCalculus m → r < m.size → s < m.size → t < m.size → Has (entry_at m r s) t → Has (entry_at m t (converse_at m s)) r
 turn-right m r s t k a b c h = (k.cycle r s t a b c).0 h
 
--- t in r;s gives s in (the converse of r);t
+-- from t in r;s follows s in (the converse of r);t
 turn-left : (m : Algebra) (r s t : ℕ) → IsCalculus m → r < m.size → s < m.size → t < m.size → Has (entry_at m r s) t → Has (entry_at m (converse_at m r) t) s
 turn-left m r s t k a b c h =
     let r' = converse_at m r in
@@ -52,8 +52,8 @@ turn-left m r s t k a b c h =
     let a' : r' < m.size = k.table.converse_below r a in
     let b' : s' < m.size = k.table.converse_below s b in
     let c' : t' < m.size = k.table.converse_below t c in
-    let turned : Has (entry_at m s' r') t' = (k.converse r s t a b c).0 h in
-    let cycled : Has (entry_at m t' (converse_at m r')) s' = turn-right m s' r' t' k b' a' c' turned in
+    let of_converse : Has (entry_at m s' r') t' = (k.converse r s t a b c).0 h in
+    let cycled : Has (entry_at m t' (converse_at m r')) s' = turn-right m s' r' t' k b' a' c' of_converse in
     (k.converse r' t s a' c b).1 cycled
 
 -- ---- scenarios
@@ -69,8 +69,8 @@ as_network-index relations e l = get_or-map (λ r. 2 ^ r) relations e 0 0 l
 
 -- what a scenario says of the pair of two nodes, either way round
 record PairOf (m : Algebra) (n : ℕ) (relations : List ℕ) (i j : ℕ) : Type 0 where
-  straight : relation_between m n (as_network relations) i j ≡ 2 ^ slice_index relations (edge_at n i j)
-  turned : relation_between m n (as_network relations) j i ≡ 2 ^ converse_at m (slice_index relations (edge_at n i j))
+  forward : relation_between m n (as_network relations) i j ≡ 2 ^ slice_index relations (edge_at n i j)
+  backward : relation_between m n (as_network relations) j i ≡ 2 ^ converse_at m (slice_index relations (edge_at n i j))
   below : slice_index relations (edge_at n i j) < m.size
 
 pair_of : (m : Algebra) (n : ℕ) (words relations : List ℕ) (i j : ℕ) → IsScenario m n words relations → i < j → j < n → PairOf m n relations i j
@@ -79,8 +79,8 @@ pair_of m n words relations i j s o b =
     let e : slice_index (as_network relations) (edge_at n i j) ≡ 2 ^ slice_index relations (edge_at n i j) = as_network-index relations (edge_at n i j) (omega (arith, s.length_is)) in
     let below = s.below (edge_at n i j) l in
     record {
-      straight = relation_between-straight m n (as_network relations) i j o ∙ e;
-      turned = relation_between-turned m n (as_network relations) j i (omega arith) ∙ ap (converse m) e ∙ converse-single m (slice_index relations (edge_at n i j)) below;
+      forward = relation_between-forward m n (as_network relations) i j o ∙ e;
+      backward = relation_between-backward m n (as_network relations) j i (omega arith) ∙ ap (converse m) e ∙ converse-single m (slice_index relations (edge_at n i j)) below;
       below = below;
     }
 
@@ -110,19 +110,19 @@ IsClosed-as_network m n words relations k s = IsClosed-ordered m n (as_network r
       | inl ij ↦ elim (cases_lt j l) [
         | inl jl ↦ (let f = pair_of m n words relations i j s ij p.second_below in
             let g = pair_of m n words relations j l s jl p.third_below in
-            rw (il.straight, f.straight, g.straight)
+            rw (il.forward, f.forward, g.forward)
             (single-composes m (base i j) (base j l) (base i l) f.below g.below il.below (s.composes i j l ij jl p.third_below)))
         | inr lj ↦ (let lt : l < j = omega (arith, p.second_third) in
             let f = pair_of m n words relations i j s ij p.second_below in
             let g = pair_of m n words relations l j s lt p.second_below in
-            rw (il.straight, f.straight, g.turned)
+            rw (il.forward, f.forward, g.backward)
             (single-composes m (base i j) (converse_at m (base l j)) (base i l) f.below (k.table.converse_below _ g.below) il.below
             (turn-right m (base i l) (base l j) (base i j) k il.below g.below f.below (s.composes i l j o lt p.second_below))))
       ]
       | inr ji ↦ (let lt : j < i = omega (arith, p.first_second) in
           let f = pair_of m n words relations j i s lt p.first_below in
           let g = pair_of m n words relations j l s (omega arith) p.third_below in
-          rw (il.straight, f.turned, g.straight)
+          rw (il.forward, f.backward, g.forward)
           (single-composes m (converse_at m (base j i)) (base j l) (base i l) (k.table.converse_below _ f.below) g.below il.below
           (turn-left m (base j i) (base i l) (base j l) k f.below il.below g.below (s.composes j i l lt o p.third_below))))
     ])
@@ -150,7 +150,7 @@ pub IsScenario-closed : (m : Algebra) (n : ℕ) (words relations : List ℕ) →
 IsScenario-closed m n words relations k l below closed w =
     let base = λ (i j : ℕ). slice_index relations (edge_at n i j) in
     let at = λ (i j : ℕ) (o : i < j) (b : j < n).
-    relation_between-straight m n (as_network relations) i j o ∙ as_network-index relations (edge_at n i j) (omega (arith, l, edge_at-lt n i j o b)) in
+    relation_between-forward m n (as_network relations) i j o ∙ as_network-index relations (edge_at n i j) (omega (arith, l, edge_at-lt n i j o b)) in
     record {
       length_is = l;
       below = below;
@@ -182,8 +182,8 @@ converse-empty m = empty-within _ (record {
   each = λ t h. let i : InConverse m 0 t = converse-member m 0 t h in absurd (not_Has-empty i.base i.base_in);
 })
 
-pub turned-empty : (m : Algebra) (n : ℕ) (words : List ℕ) (i j : ℕ) → IsCalculus m → IsNetwork m n words → i ≢ j → relation_between m n words i j ≡ 0 → relation_between m n words j i ≡ 0
-turned-empty m n words i j k net d e = relation_between-converse m n words i j k net d ∙ ap (converse m) e ∙ converse-empty m
+pub relation_between-empty : (m : Algebra) (n : ℕ) (words : List ℕ) (i j : ℕ) → IsCalculus m → IsNetwork m n words → i ≢ j → relation_between m n words i j ≡ 0 → relation_between m n words j i ≡ 0
+relation_between-empty m n words i j k net d e = relation_between-converse m n words i j k net d ∙ ap (converse m) e ∙ converse-empty m
 
 -- an empty set on the way empties the set along it
 along-empty : (m : Algebra) (n : ℕ) (words : List ℕ) (i j l : ℕ) → IsCalculus m → IsClosed m n words → IsProperTriple n i j l → relation_between m n words i j ≡ 0 → relation_between m n words i l ≡ 0
@@ -207,7 +207,7 @@ pair-empty m n words i j a b k net c p q e = elim (cases_eq a i) [
       (record { first_below = p.first_below; second_below = q.first_below; differ = λ h. differ (sym h) }) e in
       node-empty m n words a i b k c
       (record { first_below = q.first_below; second_below = p.first_below; differ = differ }) q
-      (turned-empty m n words i a k net (λ h. differ (sym h)) ia))
+      (relation_between-empty m n words i a k net (λ h. differ (sym h)) ia))
 ]
 
 pub closed-empty : (m : Algebra) (n e : ℕ) (words : List ℕ) → IsCalculus m → IsNetwork m n words → IsClosed m n words → e < edge_count n → slice_index words e ≡ 0 → (d : ℕ) → slice_index words d ≡ 0
@@ -217,7 +217,7 @@ closed-empty m n e words k net c l h d = elim (cases_lt d (edge_count n)) [
       let g : EdgeOf n d = edge_of n d b in
       let p : IsProperPair n f.first f.second = record { first_below = omega (arith, f.order, f.below); second_below = f.below; differ = λ x. absurd (omega (arith, f.order)) } in
       let q : IsProperPair n g.first g.second = record { first_below = omega (arith, g.order, g.below); second_below = g.below; differ = λ x. absurd (omega (arith, g.order)) } in
-      let at_f : relation_between m n words f.first f.second ≡ 0 = relation_between-straight m n words f.first f.second f.order ∙ ap (slice_index words) f.number ∙ h in
-      sym (relation_between-straight m n words g.first g.second g.order ∙ ap (slice_index words) g.number) ∙ pair-empty m n words f.first f.second g.first g.second k net c p q at_f)
+      let at_f : relation_between m n words f.first f.second ≡ 0 = relation_between-forward m n words f.first f.second f.order ∙ ap (slice_index words) f.number ∙ h in
+      sym (relation_between-forward m n words g.first g.second g.order ∙ ap (slice_index words) g.number) ∙ pair-empty m n words f.first f.second g.first g.second k net c p q at_f)
   | inr o ↦ get_or-eq_default words 0 (omega (arith, net.length_is))
 ]

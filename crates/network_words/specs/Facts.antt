@@ -9,8 +9,8 @@ use Rattle.network_words.specs.declared.fact.Fact.{Fact}
 
 -- the fact lets the base relation t stand on the pair (i, j); a fact of another pair lets each
 pub record Allows (m : Algebra) (i j t : ℕ) (fact : Fact) : Type 0 where
-  pub straight : fact.i ≡ i → fact.j ≡ j → Has fact.rel t
-  pub turned : fact.i ≡ j → fact.j ≡ i → Has (converse m fact.rel) t
+  pub forward : fact.i ≡ i → fact.j ≡ j → Has fact.rel t
+  pub backward : fact.i ≡ j → fact.j ≡ i → Has (converse m fact.rel) t
 
 -- the set of each edge has the base relations that every fact allows
 pub record IsNetworkOfFacts (m : Algebra) (n : ℕ) (facts : List Fact) (words : List ℕ) : Type 0 where

@@ -25,7 +25,7 @@ abbrev pub relation_between : Algebra → ℕ → List ℕ → ℕ → ℕ → �
 relation_between m n words i j =
     if nat_lt i j then slice_index words (edge_at n i j) else converse m (slice_index words (edge_at n j i))
 
--- the set x of the pair (i, j) as its edge has it: turned round where the pair is the other way round
+-- the set x of the pair (i, j) as its edge stores it: the converse where the pair is the other way round
 abbrev pub oriented : Algebra → ℕ → ℕ → ℕ → ℕ
 oriented m i j x = if nat_lt i j then x else converse m x
 

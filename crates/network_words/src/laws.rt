@@ -1,5 +1,9 @@
 ghost use Rattle.std.specs.Prelude.{◌≡◌};
-ghost use Rattle.network_words.specs.Laws.{EdgesAreInOrder, EachNumberHasAnEdge, NoNumberHasTwoEdges, EveryEdgeClosedIsClosed, EmptyEmptiesAll, ClosureExists, ClosureIsUnique, KeepingClosedGivesClosure, BetweenHasSameClosure, ClosureMeetsFacts, AppendedFactsNarrow, ScenarioIsClosed, ClosedSinglesAreScenario, ScenarioIsOfClosure};
+ghost use Rattle.network_words.specs.Laws.{EdgesAreInOrder, EachNumberHasAnEdge, NoNumberHasTwoEdges};
+ghost use Rattle.network_words.specs.Laws.{EveryEdgeClosedIsClosed, EmptyEmptiesAll, ClosureExists, ClosureIsUnique};
+ghost use Rattle.network_words.specs.Laws.{KeepingClosedGivesClosure, BetweenHasSameClosure, ClosureMeetsFacts};
+ghost use Rattle.network_words.specs.Laws.{AppendedFactsNarrow, ScenarioIsClosed, ClosedSinglesAreScenario};
+ghost use Rattle.network_words.specs.Laws.{ScenarioIsOfClosure};
 
 use crate::MAX_NODES;
 

@@ -55,7 +55,9 @@ impl Model for Net {
 }
 
 impl Net {
-    ghost use Rattle.std.specs.Prelude.{◌≡◌, ◌≢◌, ℕ, ◌<◌, ◌≤◌, ◌^◌, ◌↔◌, ◌⊎◌, [], All, length, map, replicate, slice_index, slice_set, IfOk, IfErr, OnOk, OnErr, IsErrOf, MatchOption, slice_get, Some, None};
+    ghost use Rattle.std.specs.Prelude.{◌≡◌, ◌≢◌, ℕ, ◌<◌, ◌≤◌, ◌^◌, ◌↔◌, ◌⊎◌, [], All, length, map, replicate};
+    ghost use Rattle.std.specs.Prelude.{slice_index, slice_set, IfOk, IfErr, OnOk, OnErr, IsErrOf, MatchOption};
+    ghost use Rattle.std.specs.Prelude.{slice_get, Some, None};
     ghost use Rattle.std.specs.String.{string_bytes};
     ghost use Rattle.calculus_table.specs.Calculus.{AreDistinct};
     ghost use Rattle.network_words.specs.Facts.{IsNetworkOfFacts, narrowed_by};

@@ -2,7 +2,7 @@ use Rattle.std.proofs.Common.{◌≡◌, ◌<◌, ◌≤◌, ◌∙◌, ap, arit
 use Rattle.std.proofs.lemmas.List.{length-set}
 use Rattle.network_words.specs.Edge.{edge_at, edge_between}
 use Rattle.network_words.specs.Network.{Network}
-use Rattle.network_words.proofs.Edges.{edge_between-straight}
+use Rattle.network_words.proofs.Edges.{edge_between-forward}
 use Rattle.closure_seq.proofs.Loads.{rest-words, IsRowStored-edge, IsStored-row}
 use Rattle.closure_seq.proofs.loading.store_row.Goals as goal
 
@@ -14,7 +14,7 @@ loop-j-preserved c =
     let below : c.loop-j.j < n = omega (arith, c.loop-j-test.true, c.nodes-nodes.ensures.value) in
     let order : c.args.i < c.loop-j.j = omega (arith, c.loop-j.auto.j) in
     let at : c.edge_between.result ≡ edge_at n c.args.i c.loop-j.j =
-    c.edge_between.ensures.value ∙ ap (λ k. edge_between k c.args.i c.loop-j.j) c.nodes-nodes.ensures.value ∙ edge_between-straight n c.args.i c.loop-j.j order in
+    c.edge_between.ensures.value ∙ ap (λ k. edge_between k c.args.i c.loop-j.j) c.nodes-nodes.ensures.value ∙ edge_between-forward n c.args.i c.loop-j.j order in
     record {
       rest = rest-words c.args.net.now c.loop-j.net c.set-in-loop-j.new.self _ p.rest c.set-in-loop-j.ensures;
       length_is = ap (λ (y : Network). length y.words) c.set-in-loop-j.ensures ∙ length-set _ _ _ ∙ p.length_is;
