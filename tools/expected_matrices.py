@@ -153,7 +153,7 @@ LISTED = [
     ("a needle's tip on a slanted edge", [(-FAR, -FAR), (FAR, FAR), (-FAR, FAR)], [(0, 0), (FAR, 1 - FAR), (FAR, -FAR)]),
     ("a thin triangle at the limits with itself", [(-FAR, 0), (FAR, 1), (FAR, 0)], [(-FAR, 0), (FAR, 1), (FAR, 0)]),
     ("a triangle in the square of the limits", square(-FAR, -FAR, 2 * FAR), [(-FAR, -FAR), (FAR, -FAR), (0, FAR)]),
-    ("the square of the limits with itself, turned", square(-FAR, -FAR, 2 * FAR), square(-FAR, -FAR, 2 * FAR)[::-1]),
+    ("the square of the limits with itself, reversed", square(-FAR, -FAR, 2 * FAR), square(-FAR, -FAR, 2 * FAR)[::-1]),
     ("diagonals of the limits", [(-FAR, -FAR), (FAR, FAR), (FAR, FAR - 1)], [(-FAR, FAR), (FAR, -FAR), (FAR, 1 - FAR)]),
     ("a horseshoe round a square", [(0, 0), (12, 0), (12, 12), (8, 12), (8, 4), (4, 4), (4, 12), (0, 12)], square(5, 5, 2)),
     ("a horseshoe touched at both arms", [(0, 0), (12, 0), (12, 12), (8, 12), (8, 4), (4, 4), (4, 12), (0, 12)], square(4, 5, 4)),

@@ -11,6 +11,7 @@ use Rattle.de9im.specs.declared.matrices.Dim.TheVariants as dim
 use Rattle.de9im.specs.declared.matrices.Matrix.{Matrix}
 use Rattle.de9im.specs.Matrix.{Common}
 use Rattle.de9im.specs.Matrices.{IsMatrix, AreRectsApart}
+use Rattle.de9im.proofs.Commons.{Common-swap}
 use Rattle.de9im.proofs.Disjoint.{apart_x, apart_y, on_alone, in_alone}
 
 either : (p q : Type 0) → p ⊎ q → q ⊎ p
@@ -35,9 +36,6 @@ apart_matrix = record { ii = dim.F; ib = dim.F; ie = dim.D2; bi = dim.F; bb = di
 in_or_out : (vs : List Point) (z : Place) → IsInRing vs z → IsOutOfRing vs z → ⊥
 in_or_out vs z i o = let e = o.even in let d = i.odd in omega arith
 
-turned : (p q : Place → Type 0) → Common p q → Common q p
-turned p q c = record { place = c.place; weight = c.weight; first = c.second; second = c.first }
-
 pub apart_is : (vs ws : List Point) (r s : Rect) → 3 ≤ length vs → 3 ≤ length ws → IsSimple vs → IsSimple ws → CoversAll r vs → CoversAll s ws → AreRectsApart r s → IsMatrix apart_matrix vs ws
 apart_is vs ws r s fv fw sv sw cv cw apart =
     let out = one_out vs ws r s cv cw apart in
@@ -49,7 +47,7 @@ apart_is vs ws r s fv fw sv sw cv cw apart =
       bi = inr (refl, λ c. elim (out c.place c.weight) [ inl o ↦ o.off c.first | inr o ↦ in_or_out ws c.place c.second o ]);
       bb = inr (inr (refl, λ c. elim (out c.place c.weight) [ inl o ↦ o.off c.first | inr o ↦ o.off c.second ]));
       be = inl (refl, on_alone vs ws sv (omega arith) out);
-      ei = inl (refl, turned _ _ (in_alone ws vs sw (omega arith) back));
-      eb = inl (refl, turned _ _ (on_alone ws vs sw (omega arith) back));
+      ei = inl (refl, Common-swap (in_alone ws vs sw (omega arith) back));
+      eb = inl (refl, Common-swap (on_alone ws vs sw (omega arith) back));
       ee = refl;
     }

@@ -8,7 +8,7 @@ use Rattle.poly_exact.specs.declared.points.Point.{Point}
 use Rattle.poly_exact.specs.Places.{Place, above, reach, IsOnEdge, IsInside, IsClear, between}
 use Rattle.poly_exact.specs.Rings.{vertex, next, crossings, IsOnRing, IsSimple}
 use Rattle.poly_exact.proofs.Whole.{weak, expand, polys, mul-pos, mul-le, zero-of-mul, pos-of-mul, neg-mul}
-use Rattle.poly_exact.proofs.Crossings.{IsOnEdge-turned}
+use Rattle.poly_exact.proofs.Crossings.{IsOnEdge-reversed}
 use Rattle.poly_exact.proofs.RingLaw.{segment_law}
 use Rattle.poly_exact.proofs.Local.{mixed_weight}
 use Rattle.poly_exact.proofs.Inner.{reach_part}
@@ -85,7 +85,7 @@ pub inside_apart : (a b : Point) (p m : Place) → pos 0 <ℤ p.w → IsAhead p 
 inside_apart a b p m w h na nb o = record {
   on = o;
   from_first = reach_apart a b p m w h na o;
-  from_second = reach_apart b a p m w h nb (IsOnEdge-turned a b m o);
+  from_second = reach_apart b a p m w h nb (IsOnEdge-reversed a b m o);
 }
 
 -- ---- what the first place ahead tells

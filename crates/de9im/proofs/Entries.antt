@@ -10,7 +10,7 @@ use Rattle.poly_exact.specs.Places.{Place, above, turn, IsOnEdge, IsInside}
 use Rattle.poly_exact.specs.Rings.{vertex, next, crossings, IsOnRing, IsInRing, IsOutOfRing, IsSimple}
 use Rattle.de9im.specs.Matrix.{Common}
 use Rattle.poly_exact.proofs.Whole.{expand, polys, mul-pos, mul-nonneg}
-use Rattle.poly_exact.proofs.Crossings.{IsOnEdge-turned}
+use Rattle.poly_exact.proofs.Crossings.{IsOnEdge-reversed}
 use Rattle.poly_exact.proofs.RingLaw.{parity}
 use Rattle.poly_exact.proofs.Boxes.{IsNear-wider, Near-both}
 use Rattle.poly_exact.proofs.Local.{KeepsOff, box_law, near_clear}
@@ -133,7 +133,7 @@ module _ (vs : List Point) (simple : IsSimple vs) (m : Place) (w : pos 0 <ℤ m.
   left_off a b z n zw i height left o = by_lt_z a.y b.y
       (λ l. let t = left_turn a b z m (omega (arith, ints)) w i.on.line height left in let f = o.line in omega (arith, ints))
       (λ l. by_lt_z b.y a.y
-      (λ k. let o' = IsOnEdge-turned a b z o in let j = IsOnEdge-turned a b m i.on in let t = left_turn b a z m (omega (arith, ints)) w j.line height left in let f = o'.line in omega (arith, ints))
+      (λ k. let o' = IsOnEdge-reversed a b z o in let j = IsOnEdge-reversed a b m i.on in let t = left_turn b a z m (omega (arith, ints)) w j.line height left in let f = o'.line in omega (arith, ints))
       (λ k. n (omega (arith, ints))))
 
   left_of : (n : ℤ) → pos 0 <ℤ n → (others vs simple e b m w i).n ≤ℤ n → (IsOnRing vs (shifted n (negsuc 0) (pos 0) m) → ⊥) × ((crossings vs (shifted n (negsuc 0) (pos 0) m) (length vs) + crossings vs m (length vs)) % 2 ≡ 1)

@@ -1,6 +1,6 @@
 -- The matrix from what the scan found and what the boundaries see.
 use Rattle.std.proofs.Common.{◌≡◌, refl, sym, ◌∙◌, subst, arith, ◌⊎◌, inl, inr, ℕ, zero, suc, ◌+◌, ◌<◌, ◌≤◌, ◌%◌, List, length, Bool, true, false, cond}
-use Rattle.std.specs.Prelude.{◌||◌, IsTrue}
+use Rattle.std.specs.Prelude.{◌||◌, ◌↔◌, IsTrue}
 use lib.IntN.{ℤ, pos, ◌*ℤ◌}
 use lib.Signed.{◌<ℤ◌}
 use borrow.Author.Differences.{ints}
@@ -20,13 +20,14 @@ use Rattle.de9im.specs.Matrix.{Common}
 use Rattle.poly_exact.specs.Small.{place}
 use Rattle.poly_exact.specs.Located.{IsLocated}
 use Rattle.poly_exact.specs.Met.{DoCross}
-use Rattle.de9im.specs.Scans.{EdgePair, IsSound, IsDone}
+use Rattle.de9im.specs.Scans.{EdgePair, Stretch, IsSound, IsDone}
 use Rattle.de9im.specs.Cuts.{IsBoundary, IsAllUncrossed, seen}
 use Rattle.de9im.specs.Matrices.{IsEntry, IsBoundaryEntry, IsMatrix, AreViews, IsTold, IsUnmetRing, given, gathered}
 use Rattle.poly_exact.proofs.RingLaw.{next-more}
 use Rattle.poly_exact.proofs.VertexPlaces.{at, first_on, second_on}
 use Rattle.de9im.proofs.Proper.{crossing_law}
 use Rattle.poly_exact.proofs.SamePoints.{IsOnEdge-same}
+use Rattle.de9im.proofs.Commons.{Common-swap}
 use Rattle.de9im.proofs.Chains.{IsUnmet, unmet_law}
 use Rattle.de9im.proofs.InBoth.{in_both, in_first_alone, in_second_alone}
 use Rattle.de9im.proofs.Sights.{blind, or_left, or_right, or_either, seen_in, seen_out}
@@ -139,9 +140,6 @@ module _ (f : Contacts) (vs ws : List Point) (sv : IsSimple vs) (sw : IsSimple w
   entry_of true d p x y = inl (refl, x refl)
   entry_of false d p x y = inr (refl, λ h. false≢true (y h))
 
-  turned : (p q : Place → Type 0) → Common p q → Common q p
-  turned p q c = record { place = c.place; weight = c.weight; first = c.second; second = c.first }
-
   boundary_entry : (s m : Bool) → f.stretch ≡ s → f.meets ≡ m → IsBoundaryEntry (cond s dim.D1 (given m dim.D0)) vs ws
   boundary_entry true m e g = inl (refl, sound.stretch e)
   boundary_entry false true e g = inr (inl (refl, (λ h. false≢true (sym e ∙ (done.full h.e h.f h.below_e h.below_f).stretch h.holds), sound.meets g)))
@@ -160,48 +158,37 @@ module _ (f : Contacts) (vs ws : List Point) (sv : IsSimple vs) (sw : IsSimple w
     b_out : Common (IsOnRing ws) (IsOutOfRing vs) → IsTrue v.second.outside
     b_out c = (views.second.full c.place c.weight c.first).outside c.second
 
-    three : (x y z : Bool) → IsTrue x ⊎ (IsTrue y ⊎ IsTrue z) → IsTrue (x || (y || z))
-    three x y z o = elim o [ inl t ↦ or_left x _ t | inr r ↦ elim r [ inl t ↦ or_right x _ (or_left y z t) | inr t ↦ or_right x _ (or_right y z t) ] ]
+    -- one of three holds exactly where one of three tests is true
+    from_tests : {A B C D : Type 0} (x y z : Bool) → D ↔ (A ⊎ (B ⊎ C)) → (IsTrue x → A) → (IsTrue y → B) → (IsTrue z → C) → IsTrue (x || (y || z)) → D
+    from_tests x y z law a b c t = law.1 (elim (or_either x _ t) [ inl h ↦ inl (a h) | inr r ↦ inr (elim (or_either y z r) [ inl h ↦ inl (b h) | inr h ↦ inr (c h) ]) ])
 
-    three_of : (x y z : Bool) → IsTrue (x || (y || z)) → IsTrue x ⊎ (IsTrue y ⊎ IsTrue z)
-    three_of x y z t = elim (or_either x _ t) [ inl h ↦ inl h | inr h ↦ inr (or_either y z h) ]
+    to_tests : {A B C D : Type 0} (x y z : Bool) → D ↔ (A ⊎ (B ⊎ C)) → (A → IsTrue x) → (B → IsTrue y) → (C → IsTrue x ⊎ IsTrue z) → D → IsTrue (x || (y || z))
+    to_tests x y z law a b c d = elim (law.0 d) [
+      | inl h ↦ or_left x _ (a h)
+      | inr r ↦ elim r [
+        | inl h ↦ or_right x _ (or_left y z (b h))
+        | inr h ↦ elim (c h) [ inl t ↦ or_left x _ t | inr t ↦ or_right x _ (or_right y z t) ]
+      ]
+    ]
 
-    ii_from : IsTrue (v.first.inside || (v.second.inside || f.ii)) → Common (IsInRing vs) (IsInRing ws)
-    ii_from t = (in_both vs ws sv sw).1 (elim (three_of _ _ _ t) [ inl x ↦ inl (views.first.sound.inside x) | inr r ↦ elim r [ inl x ↦ inr (inl (views.second.sound.inside x)) | inr x ↦ inr (inr (sound.ii x)) ] ])
+    in_law : Stretch vs ws 0 0 → IsTrue v.first.inside ⊎ IsTrue f.ii
+    in_law h = elim ((done.full h.e h.f h.below_e h.below_f).ii h refl refl) [ inl t ↦ inl (a_in (first_cross (sound.proper t)).0) | inr t ↦ inr t ]
 
-    ii_to : Common (IsInRing vs) (IsInRing ws) → IsTrue (v.first.inside || (v.second.inside || f.ii))
-    ii_to c = three _ _ _ (elim ((in_both vs ws sv sw).0 c) [
-      | inl x ↦ inl (a_in x)
-      | inr r ↦ elim r [ inl x ↦ inr (inl (b_in x)) | inr h ↦ elim ((done.full h.e h.f h.below_e h.below_f).ii h refl refl) [ inl t ↦ inl (a_in (first_cross (sound.proper t)).0) | inr t ↦ inr (inr t) ] ]
-    ])
+    first_law : Stretch vs ws 0 1 → IsTrue v.first.outside ⊎ IsTrue f.ie
+    first_law h = elim ((done.full h.e h.f h.below_e h.below_f).ie h refl refl) [ inl t ↦ inl (a_out (first_cross (sound.proper t)).1) | inr t ↦ inr t ]
 
-    ie_from : IsTrue (v.first.outside || (v.second.inside || f.ie)) → Common (IsInRing vs) (IsOutOfRing ws)
-    ie_from t = (in_first_alone vs ws sv sw).1 (elim (three_of _ _ _ t) [ inl x ↦ inl (views.first.sound.outside x) | inr r ↦ elim r [ inl x ↦ inr (inl (views.second.sound.inside x)) | inr x ↦ inr (inr (sound.ie x)) ] ])
-
-    ie_to : Common (IsInRing vs) (IsOutOfRing ws) → IsTrue (v.first.outside || (v.second.inside || f.ie))
-    ie_to c = three _ _ _ (elim ((in_first_alone vs ws sv sw).0 c) [
-      | inl x ↦ inl (a_out x)
-      | inr r ↦ elim r [ inl x ↦ inr (inl (b_in x)) | inr h ↦ elim ((done.full h.e h.f h.below_e h.below_f).ie h refl refl) [ inl t ↦ inl (a_out (first_cross (sound.proper t)).1) | inr t ↦ inr (inr t) ] ]
-    ])
-
-    ei_from : IsTrue (v.second.outside || (v.first.inside || f.ei)) → Common (IsOutOfRing vs) (IsInRing ws)
-    ei_from t = (in_second_alone vs ws sv sw).1 (elim (three_of _ _ _ t) [ inl x ↦ inl (views.second.sound.outside x) | inr r ↦ elim r [ inl x ↦ inr (inl (views.first.sound.inside x)) | inr x ↦ inr (inr (sound.ei x)) ] ])
-
-    ei_to : Common (IsOutOfRing vs) (IsInRing ws) → IsTrue (v.second.outside || (v.first.inside || f.ei))
-    ei_to c = three _ _ _ (elim ((in_second_alone vs ws sv sw).0 c) [
-      | inl x ↦ inl (b_out x)
-      | inr r ↦ elim r [ inl x ↦ inr (inl (a_in x)) | inr h ↦ elim ((done.full h.e h.f h.below_e h.below_f).ei h refl refl) [ inl t ↦ inl (b_out (second_cross (sound.proper t)).1) | inr t ↦ inr (inr t) ] ]
-    ])
+    second_law : Stretch vs ws 1 0 → IsTrue v.second.outside ⊎ IsTrue f.ei
+    second_law h = elim ((done.full h.e h.f h.below_e h.below_f).ei h refl refl) [ inl t ↦ inl (b_out (second_cross (sound.proper t)).1) | inr t ↦ inr t ]
 
     pub gathered_is : IsMatrix (gathered f v) vs ws
     gathered_is = record {
-      ii = entry_of _ dim.D2 _ ii_from ii_to;
-      ib = entry_of _ dim.D1 _ (λ t. turned (IsOnRing ws) (IsInRing vs) (views.second.sound.inside t)) (λ c. b_in (turned (IsInRing vs) (IsOnRing ws) c));
-      ie = entry_of _ dim.D2 _ ie_from ie_to;
+      ii = entry_of _ dim.D2 _ (from_tests _ _ _ (in_both vs ws sv sw) views.first.sound.inside views.second.sound.inside sound.ii) (to_tests _ _ _ (in_both vs ws sv sw) a_in b_in in_law);
+      ib = entry_of _ dim.D1 _ (λ t. Common-swap (views.second.sound.inside t)) (λ c. b_in (Common-swap c));
+      ie = entry_of _ dim.D2 _ (from_tests _ _ _ (in_first_alone vs ws sv sw) views.first.sound.outside views.second.sound.inside sound.ie) (to_tests _ _ _ (in_first_alone vs ws sv sw) a_out b_in first_law);
       bi = entry_of _ dim.D1 _ views.first.sound.inside a_in;
       bb = boundary_entry f.stretch f.meets refl refl;
       be = entry_of _ dim.D1 _ views.first.sound.outside a_out;
-      ei = entry_of _ dim.D2 _ ei_from ei_to;
-      eb = entry_of _ dim.D1 _ (λ t. turned (IsOnRing ws) (IsOutOfRing vs) (views.second.sound.outside t)) (λ c. b_out (turned (IsOutOfRing vs) (IsOnRing ws) c));
+      ei = entry_of _ dim.D2 _ (from_tests _ _ _ (in_second_alone vs ws sv sw) views.second.sound.outside views.first.sound.inside sound.ei) (to_tests _ _ _ (in_second_alone vs ws sv sw) b_out a_in second_law);
+      eb = entry_of _ dim.D1 _ (λ t. Common-swap (views.second.sound.outside t)) (λ c. b_out (Common-swap c));
       ee = refl;
     }

@@ -1,3 +1,4 @@
+pub mod Commons
 pub mod Halves
 pub mod Proper
 pub mod Nearest

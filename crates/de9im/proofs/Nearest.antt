@@ -11,8 +11,8 @@ use Rattle.std.specs.Prelude.{int_le, int_lt}
 use Rattle.poly_exact.proofs.West.{no_count}
 use Rattle.poly_exact.specs.Rings.{vertex, next, IsOnRing, crossings}
 use Rattle.poly_exact.proofs.Whole.{weak, expand, polys, mul-pos, mul-nonneg, mul-pn, mul-le, zero-of-mul, pos-of-mul, nonneg-of-mul, nonpos-of-mul}
-use Rattle.poly_exact.proofs.Crossings.{IsOnEdge-turned, on_rising}
-use Rattle.poly_exact.proofs.EdgeLaw.{climb, count_of, right_rising, yes_under, drop_of, counted-turned}
+use Rattle.poly_exact.proofs.Crossings.{IsOnEdge-reversed, on_rising}
+use Rattle.poly_exact.proofs.EdgeLaw.{climb, count_of, right_rising, yes_under, drop_of, counted-reversed}
 use Rattle.poly_exact.proofs.Boxes.{moved}
 use Rattle.poly_exact.proofs.Local.{mixed_weight}
 use Rattle.poly_exact.proofs.Inner.{IsOnEdge-between}
@@ -143,17 +143,17 @@ module _ (a b : Point) (p : Place) (w : pos 0 <ℤ p.w) (rise : pos 0 <ℤ (b.y 
 
 -- ---- every edge
 
-Hit-turned : (a b : Point) (p : Place) → Hit a b p → Hit b a p
-Hit-turned a b p h = record { m = h.m; ahead = h.ahead; apart = h.apart; on = IsOnEdge-turned a b h.m h.on; least = λ z k o. h.least z k (IsOnEdge-turned b a z o) }
+Hit-reversed : (a b : Point) (p : Place) → Hit a b p → Hit b a p
+Hit-reversed a b p h = record { m = h.m; ahead = h.ahead; apart = h.apart; on = IsOnEdge-reversed a b h.m h.on; least = λ z k o. h.least z k (IsOnEdge-reversed b a z o) }
 
-Missed-turned : (a b : Point) (p : Place) → a.y <ℤ b.y → Missed a b p → Missed b a p
-Missed-turned a b p l h = record { zero_count = counted-turned a b p l ∙ h.zero_count; none = λ z k o. h.none z k (IsOnEdge-turned b a z o) }
+Missed-reversed : (a b : Point) (p : Place) → a.y <ℤ b.y → Missed a b p → Missed b a p
+Missed-reversed a b p l h = record { zero_count = counted-reversed a b p l ∙ h.zero_count; none = λ z k o. h.none z k (IsOnEdge-reversed b a z o) }
 
 pub hit : (a b : Point) (p : Place) → pos 0 <ℤ p.w → above a p ≢ pos 0 → above b p ≢ pos 0 → (IsOnEdge a b p → ⊥) → Hit a b p ⊎ Missed a b p
 hit a b p w na nb off = by_lt_z a.y b.y
     (λ l. hit_rising a b p w (omega (arith, ints)) na nb off)
     (λ l. by_lt_z b.y a.y
-    (λ k. elim (hit_rising b a p w (omega (arith, ints)) nb na (λ o. off (IsOnEdge-turned b a p o))) [ inl h ↦ inl (Hit-turned b a p h) | inr h ↦ inr (Missed-turned b a p k h) ])
+    (λ k. elim (hit_rising b a p w (omega (arith, ints)) nb na (λ o. off (IsOnEdge-reversed b a p o))) [ inl h ↦ inl (Hit-reversed b a p h) | inr h ↦ inr (Missed-reversed b a p k h) ])
     (λ k. inr (record {
       zero_count = alike_under (is_under a p) (is_under b p) (is_right a b p) (let e : b.y ≡ a.y = omega (arith, ints) in ap (λ h. int_le (h *ℤ p.w) p.y) e);
       none = λ z h o. na

@@ -18,7 +18,7 @@ use Rattle.de9im.specs.Matrix.{Common}
 use Rattle.poly_exact.specs.Small.{IsSmall}
 use Rattle.de9im.specs.Cuts.{IsNearer, IsNextTo, IsCut, IsInPiece, IsSample, seen, joined, IsTrueSight, IsSeen, IsSight, IsSightTo, IsBoundary, IsBoundaryTo}
 use Rattle.poly_exact.proofs.Whole.{mul-pos}
-use Rattle.poly_exact.proofs.Crossings.{IsOnEdge-turned}
+use Rattle.poly_exact.proofs.Crossings.{IsOnEdge-reversed}
 use Rattle.poly_exact.proofs.Inner.{reach_on}
 use Rattle.poly_exact.proofs.VertexPlaces.{at, first_on, second_on}
 use Rattle.poly_exact.proofs.SamePoints.{IsOnEdge-same}
@@ -234,7 +234,7 @@ module _ (vs ws : List Point) where
             let a = vertex vs e in let b = vertex vs (next vs e) in
             by_lt_z (reach a b z) (reach a b (at b) *ℤ z.w)
             (λ l. t.full e o.below z w o.on l)
-            (λ l. let p = IsOnEdge-turned a b z o.on in
+            (λ l. let p = IsOnEdge-reversed a b z o.on in
             let n = reach_on b a z w p in
             let f = reach_back a b z in
             let g : z.w *ℤ reach a b (at b) ≡ reach a b (at b) *ℤ z.w = *ℤ_comm z.w (reach a b (at b)) in

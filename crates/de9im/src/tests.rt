@@ -31,7 +31,7 @@ fn relation(rt: &(impl Abort + AllocGlobal), a: &str, b: &str) -> Result<String,
 }
 
 /// Which entry of the other way round stands at each place.
-const TURNED: [usize; 9] = [0, 3, 6, 1, 4, 7, 2, 5, 8];
+const CONVERSE: [usize; 9] = [0, 3, 6, 1, 4, 7, 2, 5, 8];
 
 /// A name, two rings and their matrix, as tools/expected_matrices.py prints them.
 const LISTED: &str = "\
@@ -70,7 +70,7 @@ a needle's tip over a slanted edge by a hair | -100000000 -100000000 100000000 9
 a needle's tip on a slanted edge | -100000000 -100000000 100000000 100000000 -100000000 100000000 | 0 0 100000000 -99999999 100000000 -100000000 | FF2F01212
 a thin triangle at the limits with itself | -100000000 0 100000000 1 100000000 0 | -100000000 0 100000000 1 100000000 0 | 2FFF1FFF2
 a triangle in the square of the limits | -100000000 -100000000 100000000 -100000000 100000000 100000000 -100000000 100000000 | -100000000 -100000000 100000000 -100000000 0 100000000 | 212F11FF2
-the square of the limits with itself, turned | -100000000 -100000000 100000000 -100000000 100000000 100000000 -100000000 100000000 | -100000000 100000000 100000000 100000000 100000000 -100000000 -100000000 -100000000 | 2FFF1FFF2
+the square of the limits with itself, reversed | -100000000 -100000000 100000000 -100000000 100000000 100000000 -100000000 100000000 | -100000000 100000000 100000000 100000000 100000000 -100000000 -100000000 -100000000 | 2FFF1FFF2
 diagonals of the limits | -100000000 -100000000 100000000 100000000 100000000 99999999 | -100000000 100000000 100000000 -100000000 100000000 -99999999 | 212101212
 a horseshoe round a square | 0 0 12 0 12 12 8 12 8 4 4 4 4 12 0 12 | 5 5 7 5 7 7 5 7 | FF2FF1212
 a horseshoe touched at both arms | 0 0 12 0 12 12 8 12 8 4 4 4 4 12 0 12 | 4 5 8 5 8 9 4 9 | FF2F11212
@@ -153,15 +153,15 @@ fn compare(rt: &(impl Abort + AllocGlobal), rows: &str) -> Result<(), Fail> {
         let (a, b, wanted) = (parts[1], parts[2], parts[3]);
         let found = relation(rt, a, b)?;
         assert_eq!(rt; found.as_str(), wanted, "{row}");
-        let turned = relation(rt, b, a)?;
-        assert_eq!(rt; turned.len(), 9);
+        let converse = relation(rt, b, a)?;
+        assert_eq!(rt; converse.len(), 9);
         assert_eq!(rt; wanted.len(), 9);
         for k in 0..9 {
-            assert!(rt; TURNED[k] < 9);
+            assert!(rt; CONVERSE[k] < 9);
             assert_eq!(rt;
-                turned.as_bytes()[k],
-                wanted.as_bytes()[TURNED[k]],
-                "turned: {row}"
+                converse.as_bytes()[k],
+                wanted.as_bytes()[CONVERSE[k]],
+                "converse: {row}"
             );
         }
     }

@@ -8,7 +8,7 @@ use Rattle.std.proofs.lemmas.Int.{by_lt_z, clamps}
 use Rattle.std.proofs.lemmas.Bool.{cases_lt}
 use Rattle.poly_exact.specs.declared.points.Point.{Point}
 use Rattle.poly_exact.specs.Places.{Place, turn, IsBetween, IsOnEdge, IsNear, Near}
-use Rattle.poly_exact.proofs.Crossings.{turn-turned, IsOnEdge-turned}
+use Rattle.poly_exact.proofs.Crossings.{turn-reversed, IsOnEdge-reversed}
 use Rattle.poly_exact.proofs.Whole.{weak, expand, polys, mul-add, add-mul, mul-nonneg, mul-pos, mul-pn, mul-le}
 
 -- ---- smaller boxes
@@ -57,8 +57,8 @@ grown k n u w h e =
     let f : n *ℤ (k *ℤ u) ≡ k *ℤ (n *ℤ u) = omega (arith, polys) in
     omega (arith, ints, f, mul-le k (n *ℤ u) w h e)
 
-turned : (n k u : ℤ) → n *ℤ (neg_ℤ k *ℤ u) ≡ n *ℤ (k *ℤ neg_ℤ u)
-turned n k u = simp expand (omega (arith, polys))
+negation_moves : (n k u : ℤ) → n *ℤ (neg_ℤ k *ℤ u) ≡ n *ℤ (k *ℤ neg_ℤ u)
+negation_moves n k u = simp expand (omega (arith, polys))
 
 one_more : (u v : ℤ) → (u +ℤ pos 1) *ℤ v ≡ u *ℤ v +ℤ v
 one_more u v = simp expand (omega (arith, polys))
@@ -75,7 +75,7 @@ apart mw pw u v dy u' v' dx = simp expand (omega (arith, polys))
 bound : (d n u w : ℤ) → (n *ℤ u) ≤ℤ w → (n *ℤ neg_ℤ u) ≤ℤ w → (n *ℤ (d *ℤ u)) ≤ℤ (pos (nat_abs d) *ℤ w)
 bound (pos k) n u w h e = grown (pos k) n u w (omega (arith, ints)) h
 bound (negsuc k) n u w h e =
-    let f : n *ℤ (negsuc k *ℤ u) ≡ n *ℤ (pos (suc k) *ℤ neg_ℤ u) = turned n (pos (suc k)) u in
+    let f : n *ℤ (negsuc k *ℤ u) ≡ n *ℤ (pos (suc k) *ℤ neg_ℤ u) = negation_moves n (pos (suc k)) u in
     rw f (grown (pos (suc k)) n (neg_ℤ u) w (omega (arith, ints)) e)
 
 -- the turn moves no more than the place does
@@ -165,8 +165,8 @@ pub off_edge : (a b : Point) (m : Place) → pos 0 <ℤ m.w → (IsOnEdge a b m 
 off_edge a b m w n = by_lt_z (turn a b m) (pos 0)
     (λ t. off_line a b m w t)
     (λ t. by_lt_z (pos 0) (turn a b m)
-    (λ s. let l = off_line b a m w (omega (arith, ints, turn-turned a b m)) in
-    record { n = l.n; some = l.some; each = λ p h o. l.each p h (IsOnEdge-turned a b p o) })
+    (λ s. let l = off_line b a m w (omega (arith, ints, turn-reversed a b m)) in
+    record { n = l.n; some = l.some; each = λ p h o. l.each p h (IsOnEdge-reversed a b p o) })
     (λ s. let line : turn a b m ≡ pos 0 = omega (arith, ints) in
     record {
       n = m.w +ℤ pos 1;

@@ -14,7 +14,7 @@ use Rattle.poly_exact.specs.Located.{IsPassed}
 use Rattle.poly_exact.specs.Met.{AreApart, DoTouch, DoCross, DoShare, Crossing, IsSame}
 use Rattle.poly_exact.specs.West.{IsWest}
 use Rattle.poly_exact.specs.Checks.{AreProper, IsGoodPair, AreGoodTo, AreAllGoodTo, IsFirstBad, IsBadOf, IsParity}
-use Rattle.poly_exact.proofs.Inner.{middle, middle_on, middle_turned, reach_middle}
+use Rattle.poly_exact.proofs.Inner.{middle, middle_on, middle-swap, reach_middle}
 use Rattle.poly_exact.proofs.VertexPlaces.{at, first_on, second_on}
 use Rattle.poly_exact.proofs.Pieces.{reach_at}
 use Rattle.poly_exact.proofs.Pairs.{reach_first}
@@ -175,6 +175,6 @@ west_is vs e n p odd s be en ex ey h =
     let same : place p ≡ middle u v = λ i. record { x = ex' i; y = ey' i; w = pos 2 } in
     let g = subst (λ q. IsParity vs q (length vs) odd) same h in
     let d = s.proper e be in
-    let inside : IsInside u v (middle u v) = record { on = middle_on u v; from_first = reach_middle u v d; from_second = subst (λ q. pos 0 <ℤ reach v u q) (middle_turned v u) (reach_middle v u (λ k. d (sym k))) } in
+    let inside : IsInside u v (middle u v) = record { on = middle_on u v; from_first = reach_middle u v d; from_second = subst (λ q. pos 0 <ℤ reach v u q) (middle-swap v u) (reach_middle v u (λ k. d (sym k))) } in
     let two : pos 0 <ℤ pos 2 = omega (arith, ints) in
     record { counts = λ m w i. count_along vs s e be m (middle u v) w two i inside ∙ g.parity ∙ double_not odd }

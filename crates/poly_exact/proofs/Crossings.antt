@@ -55,19 +55,19 @@ between_from u v z h k = record { least = omega (arith, ints, clamps); greatest 
 pub between_back : (u v z : ℤ) → v ≤ℤ z → z ≤ℤ u → IsBetween u v z
 between_back u v z h k = record { least = omega (arith, ints, clamps); greatest = omega (arith, ints, clamps) }
 
-minus_turned : (u v : ℤ) → neg_ℤ u *ℤ v ≡ neg_ℤ (v *ℤ u)
-minus_turned u v = simp expand (omega (arith, polys))
+minus-swap : (u v : ℤ) → neg_ℤ u *ℤ v ≡ neg_ℤ (v *ℤ u)
+minus-swap u v = simp expand (omega (arith, polys))
 
 pub across_first : (a b : Point) (z : Place) → turn a b z ≡ pos 0 → (b.y -ℤ a.y) *ℤ (z.x -ℤ a.x *ℤ z.w) ≡ above a z *ℤ (b.x -ℤ a.x)
 across_first a b z e =
     let t = turn_first a b z in
-    let m : neg_ℤ (z.x -ℤ a.x *ℤ z.w) *ℤ (b.y -ℤ a.y) ≡ neg_ℤ ((b.y -ℤ a.y) *ℤ (z.x -ℤ a.x *ℤ z.w)) = minus_turned (z.x -ℤ a.x *ℤ z.w) (b.y -ℤ a.y) in
+    let m : neg_ℤ (z.x -ℤ a.x *ℤ z.w) *ℤ (b.y -ℤ a.y) ≡ neg_ℤ ((b.y -ℤ a.y) *ℤ (z.x -ℤ a.x *ℤ z.w)) = minus-swap (z.x -ℤ a.x *ℤ z.w) (b.y -ℤ a.y) in
     omega (arith, ints, t, m)
 
 pub across_second : (a b : Point) (z : Place) → turn a b z ≡ pos 0 → (b.y -ℤ a.y) *ℤ (z.x -ℤ b.x *ℤ z.w) ≡ above b z *ℤ (b.x -ℤ a.x)
 across_second a b z e =
     let t = turn_second a b z in
-    let m : neg_ℤ (z.x -ℤ b.x *ℤ z.w) *ℤ (b.y -ℤ a.y) ≡ neg_ℤ ((b.y -ℤ a.y) *ℤ (z.x -ℤ b.x *ℤ z.w)) = minus_turned (z.x -ℤ b.x *ℤ z.w) (b.y -ℤ a.y) in
+    let m : neg_ℤ (z.x -ℤ b.x *ℤ z.w) *ℤ (b.y -ℤ a.y) ≡ neg_ℤ ((b.y -ℤ a.y) *ℤ (z.x -ℤ b.x *ℤ z.w)) = minus-swap (z.x -ℤ b.x *ℤ z.w) (b.y -ℤ a.y) in
     omega (arith, ints, t, m)
 
 pub on_rising : (a b : Point) (z : Place) → pos 0 <ℤ (b.y -ℤ a.y) → turn a b z ≡ pos 0 → pos 0 ≤ℤ above a z → above b z ≤ℤ pos 0 → IsOnEdge a b z
@@ -93,25 +93,25 @@ meets_rising a b p q rise c m = c.none m.s m.t m.first m.second m.some
 
 -- ---- the edge the other way round
 
-pub turn-turned : (a b : Point) (p : Place) → turn b a p ≡ neg_ℤ (turn a b p)
-turn-turned a b p =
+pub turn-reversed : (a b : Point) (p : Place) → turn b a p ≡ neg_ℤ (turn a b p)
+turn-reversed a b p =
     let d : a.y -ℤ b.y ≡ neg_ℤ (b.y -ℤ a.y) = omega (arith, ints) in
     let e : a.x -ℤ b.x ≡ neg_ℤ (b.x -ℤ a.x) = omega (arith, ints) in
     let u : b.x *ℤ p.w -ℤ p.x ≡ neg_ℤ (p.x -ℤ b.x *ℤ p.w) = omega (arith, ints) in
     rw (turn_second a b p, d, e, u) (simp (neg-mul, mul-neg) (omega (arith, ints)))
 
-IsBetween-turned : (u v z : ℤ) → IsBetween u v z → IsBetween v u z
-IsBetween-turned u v z h = record { least = (let k = h.least in omega (arith, ints, clamps)); greatest = (let k = h.greatest in omega (arith, ints, clamps)) }
+IsBetween-reversed : (u v z : ℤ) → IsBetween u v z → IsBetween v u z
+IsBetween-reversed u v z h = record { least = (let k = h.least in omega (arith, ints, clamps)); greatest = (let k = h.greatest in omega (arith, ints, clamps)) }
 
-pub IsOnEdge-turned : (a b : Point) (z : Place) → IsOnEdge a b z → IsOnEdge b a z
-IsOnEdge-turned a b z h = record {
-  line = (let e = h.line in omega (arith, ints, turn-turned a b z));
-  across = IsBetween-turned _ _ _ h.across;
-  along = IsBetween-turned _ _ _ h.along;
+pub IsOnEdge-reversed : (a b : Point) (z : Place) → IsOnEdge a b z → IsOnEdge b a z
+IsOnEdge-reversed a b z h = record {
+  line = (let e = h.line in omega (arith, ints, turn-reversed a b z));
+  across = IsBetween-reversed _ _ _ h.across;
+  along = IsBetween-reversed _ _ _ h.along;
 }
 
-pub IsClear-turned : (p q : Place) (a b : Point) → IsClear p q a b → IsClear p q b a
-IsClear-turned p q a b c = record { none = λ s t h k l m. c.none s t h k l (IsOnEdge-turned b a (between s t p q) m) }
+pub IsClear-reversed : (p q : Place) (a b : Point) → IsClear p q a b → IsClear p q b a
+IsClear-reversed p q a b c = record { none = λ s t h k l m. c.none s t h k l (IsOnEdge-reversed b a (between s t p q) m) }
 
 -- ---- edges of one height: a place at that height, with one end at each side of it
 

@@ -10,7 +10,7 @@ use Rattle.poly_exact.specs.declared.points.Point.{Point}
 use Rattle.poly_exact.specs.Places.{Place, above, turn, is_under, is_right, bit, counted, between, IsClear}
 use Rattle.poly_exact.proofs.Whole.{weak, expand, polys, mul-nonneg, nonneg-of-mul}
 use Rattle.poly_exact.proofs.Meetings.{across_left, across_right, end_left, end_right, start_left, start_right, whole_left, whole_right}
-use Rattle.poly_exact.proofs.Crossings.{side, plane_first, plane_second, meets_rising, between_from, between_back, turn-turned, IsClear-turned, level_side, on_level}
+use Rattle.poly_exact.proofs.Crossings.{side, plane_first, plane_second, meets_rising, between_from, between_back, turn-reversed, IsClear-reversed, level_side, on_level}
 
 -- ---- by tests alone
 
@@ -172,26 +172,26 @@ level_law a b p q e o c =
 
 -- ---- edges that fall, and all
 
-count-turned : (ua ub r s : Bool) → r ≡ s → count_of ub ua r ≡ count_of ua ub s
-count-turned true true r s e = refl
-count-turned true false r s e = ap bit e
-count-turned false true r s e = ap bit e
-count-turned false false r s e = refl
+count-reversed : (ua ub r s : Bool) → r ≡ s → count_of ub ua r ≡ count_of ua ub s
+count-reversed true true r s e = refl
+count-reversed true false r s e = ap bit e
+count-reversed false true r s e = ap bit e
+count-reversed false false r s e = refl
 
-pub counted-turned : (a b : Point) (p : Place) → a.y <ℤ b.y → counted b a p ≡ counted a b p
-counted-turned a b p h =
+pub counted-reversed : (a b : Point) (p : Place) → a.y <ℤ b.y → counted b a p ≡ counted a b p
+counted-reversed a b p h =
     let e : int_lt a.y b.y ≡ true = sym (omega (arith, ints)) in
     let f : int_lt b.y a.y ≡ false = sym (omega (arith, ints)) in
     let g : int_lt (turn b a p) (pos 0) ≡ int_lt (pos 0) (turn a b p) = same_tests _ _
-    (λ t n. let h = neg_yes (turn b a p) t in let k = pos_no (turn a b p) n in absurd (omega (arith, ints, turn-turned a b p)))
-    (λ n t. let h = neg_no (turn b a p) n in let k = pos_yes (turn a b p) t in absurd (omega (arith, ints, turn-turned a b p))) in
+    (λ t n. let h = neg_yes (turn b a p) t in let k = pos_no (turn a b p) n in absurd (omega (arith, ints, turn-reversed a b p)))
+    (λ n t. let h = neg_no (turn b a p) n in let k = pos_yes (turn a b p) t in absurd (omega (arith, ints, turn-reversed a b p))) in
     let r : is_right b a p ≡ is_right a b p = ap (λ t. cond t (int_lt (pos 0) (turn b a p)) (int_lt (turn b a p) (pos 0))) f ∙ g ∙ sym (ap (λ t. cond t (int_lt (pos 0) (turn a b p)) (int_lt (turn a b p) (pos 0))) e) in
-    count-turned (is_under a p) (is_under b p) (is_right b a p) (is_right a b p) r
+    count-reversed (is_under a p) (is_under b p) (is_right b a p) (is_right a b p) r
 
 pub edge_law : (a b : Point) (p q : Place) → AreOrdered p q → IsClear p q a b → (counted a b p + counted a b q + inside p q a + inside p q b) % 2 ≡ 0
 edge_law a b p q o c = by_lt_z a.y b.y
     (λ h. rising_law a b p q (omega (arith, ints)) o c)
     (λ h. by_lt_z b.y a.y
-    (λ k. let r = rising_law b a p q (omega (arith, ints)) o (IsClear-turned p q a b c) in
-    rw (counted-turned b a p k, counted-turned b a q k) (omega arith))
+    (λ k. let r = rising_law b a p q (omega (arith, ints)) o (IsClear-reversed p q a b c) in
+    rw (counted-reversed b a p k, counted-reversed b a q k) (omega arith))
     (λ k. level_law a b p q (omega (arith, ints)) o c))

@@ -7,7 +7,7 @@ use Rattle.std.proofs.lemmas.Int.{by_lt_z, clamps}
 use Rattle.poly_exact.specs.declared.points.Point.{Point}
 use Rattle.poly_exact.specs.Places.{Place, reach, IsBetween, IsOnEdge, IsInside, between, IsNear}
 use Rattle.poly_exact.proofs.Whole.{weak, expand, polys, mul-nonneg, mul-pos, mul-pn, mul-nn, mul-neg-neg, mul-le}
-use Rattle.poly_exact.proofs.Crossings.{turn-between, IsOnEdge-turned}
+use Rattle.poly_exact.proofs.Crossings.{turn-between, IsOnEdge-reversed}
 use Rattle.poly_exact.proofs.Local.{mixed, mixed_weight}
 
 -- ---- an edge is convex
@@ -115,8 +115,8 @@ reach-between a b s t p q = rw (reach_sum a.x (b.x -ℤ a.x) s t p.w q.w p.x q.x
 
 -- ---- a place inside, in every box
 
-pub middle_turned : (a b : Point) → middle a b ≡ middle b a
-middle_turned a b = λ i. record { x = +ℤ_comm a.x b.x i; y = +ℤ_comm a.y b.y i; w = pos 2 }
+pub middle-swap : (a b : Point) → middle a b ≡ middle b a
+middle-swap a b = λ i. record { x = +ℤ_comm a.x b.x i; y = +ℤ_comm a.y b.y i; w = pos 2 }
 
 pub near_part : (n k cx cw x w : ℤ) → pos 0 <ℤ w → pos 0 ≤ℤ k → pos 0 <ℤ cw → (n *ℤ (cx *ℤ w -ℤ x *ℤ cw)) ≤ℤ k
     → (n *ℤ ((k *ℤ x +ℤ pos 1 *ℤ cx) *ℤ w -ℤ x *ℤ (k *ℤ w +ℤ pos 1 *ℤ cw))) ≤ℤ (w *ℤ (k *ℤ w +ℤ pos 1 *ℤ cw))
@@ -156,7 +156,7 @@ inner a b x n d w h o =
     let on : IsOnEdge a b m = IsOnEdge-between a b k (pos 1) x c kn (omega (arith, ints)) w two o (middle_on a b) in
     let ra = reach-between a b k (pos 1) x c in
     let rb = reach-between b a k (pos 1) x c in
-    let rm : pos 0 <ℤ reach b a c = subst (λ z. pos 0 <ℤ reach b a z) (middle_turned b a) (reach_middle b a (λ e. d (sym e))) in
+    let rm : pos 0 <ℤ reach b a c = subst (λ z. pos 0 <ℤ reach b a z) (middle-swap b a) (reach_middle b a (λ e. d (sym e))) in
     record {
       m = m;
       weight = mw;
@@ -170,6 +170,6 @@ inner a b x n d w h o =
       within = record {
         on = on;
         from_first = rw ra (omega (arith, ints, mul-nonneg k (reach a b x) kn (reach_on a b x w o), reach_middle a b d, one (reach a b c)));
-        from_second = rw rb (omega (arith, ints, mul-nonneg k (reach b a x) kn (reach_on b a x w (IsOnEdge-turned a b x o)), rm, one (reach b a c)));
+        from_second = rw rb (omega (arith, ints, mul-nonneg k (reach b a x) kn (reach_on b a x w (IsOnEdge-reversed a b x o)), rm, one (reach b a c)));
       };
     }

@@ -11,8 +11,8 @@ use Rattle.poly_exact.specs.Places.{Place, turn, reach, IsOnEdge, between}
 use Rattle.poly_exact.specs.Rings.{IsAt}
 use Rattle.poly_exact.specs.Met.{IsOverlap, IsMet, AreApart, IsLone, IsSame, Crossing, DoTouch, DoShare}
 use Rattle.poly_exact.proofs.Whole.{weak, expand, polys, mul-pos, mul-nonneg, mul-neg-pos, nonneg-of-mul, zero-of-mul}
-use Rattle.poly_exact.proofs.Crossings.{IsOnEdge-turned}
-use Rattle.poly_exact.proofs.Shifts.{IsInside-turned}
+use Rattle.poly_exact.proofs.Crossings.{IsOnEdge-reversed}
+use Rattle.poly_exact.proofs.Shifts.{IsInside-reversed}
 use Rattle.poly_exact.proofs.Inner.{reach-between, reach_on}
 use Rattle.poly_exact.proofs.VertexPlaces.{at, first_on, second_on}
 use Rattle.poly_exact.proofs.EdgeEnds.{mix_of, reach_both}
@@ -61,7 +61,7 @@ module _ (a b c d : Point) (n : c ≢ d) (up : reach a b (at c) <ℤ reach a b (
 
   pub high_end : reach a b z ≤ℤ (reach a b (at d) *ℤ z.w)
   high_end =
-      let m = mul-nonneg (reach d c z) _ (reach_on d c z w (IsOnEdge-turned c d z o)) (weak gap) in
+      let m = mul-nonneg (reach d c z) _ (reach_on d c z w (IsOnEdge-reversed c d z o)) (weak gap) in
       let k = nonneg-of-mul long_cd (reach a b (at d) *ℤ z.w -ℤ reach a b z) (long_edge c d n) (rw high_is m) in
       omega (arith, ints)
 
@@ -99,7 +99,7 @@ module _ (a b c d : Point) (proper : a ≢ b) (other : c ≢ d) (tc : turn a b (
   not_common o = record {
     none = λ z w i j.
         let n = reach_on a b z w i in
-        let k = reach_on b a z w (IsOnEdge-turned a b z i) in
+        let k = reach_on b a z w (IsOnEdge-reversed a b z i) in
         let e = reach_back a b z in
         let lo = low_end a b c d other up z w j in
         let hi = high_end a b c d other up z w j in
@@ -132,8 +132,8 @@ module _ (a b c d : Point) (proper : a ≢ b) (other : c ≢ d) (tc : turn a b (
   high_touch e =
       let z : (w : ℤ) → reach a b (at c) *ℤ w ≡ w *ℤ reach a b (at b) = λ w. ap (λ l. l *ℤ w) e ∙ *ℤ_comm (reach a b (at b)) w in
       let is : (p : Place) → pos 0 <ℤ p.w → IsOnEdge a b p → IsOnEdge c d p → IsAt b p = λ p w i j.
-      first_at b a (long_edge b a (λ k. proper (sym k))) p (IsOnEdge-turned a b p i)
-      (let h = low_end a b c d other up p w j in let n = reach_on b a p w (IsOnEdge-turned a b p i) in let y = z p.w in let r = reach_back a b p in omega (arith, ints)) in
+      first_at b a (long_edge b a (λ k. proper (sym k))) p (IsOnEdge-reversed a b p i)
+      (let h = low_end a b c d other up p w j in let n = reach_on b a p w (IsOnEdge-reversed a b p i) in let y = z p.w in let r = reach_back a b p in omega (arith, ints)) in
       record {
         m = at b;
         weight = one;
@@ -202,20 +202,20 @@ module _ (a b c d : Point) (proper : a ≢ b) (other : c ≢ d) (tc : turn a b (
 -- ---- c and d the other way round
 
 module _ (a b c d : Point) where
-  crossing_turned : Crossing a b d c → Crossing a b c d
-  crossing_turned x = record { m = x.m; weight = x.weight; first = x.first; second = IsInside-turned d c x.m x.second }
+  crossing_reversed : Crossing a b d c → Crossing a b c d
+  crossing_reversed x = record { m = x.m; weight = x.weight; first = x.first; second = IsInside-reversed d c x.m x.second }
 
   crossing_back : Crossing a b c d → Crossing a b d c
-  crossing_back x = record { m = x.m; weight = x.weight; first = x.first; second = IsInside-turned c d x.m x.second }
+  crossing_back x = record { m = x.m; weight = x.weight; first = x.first; second = IsInside-reversed c d x.m x.second }
 
-  lone_turned : IsLone a b d c → IsLone a b c d
-  lone_turned h = record { same = λ p q wp wq ip jp iq jq. h.same p q wp wq ip (IsOnEdge-turned c d p jp) iq (IsOnEdge-turned c d q jq) }
+  lone_reversed : IsLone a b d c → IsLone a b c d
+  lone_reversed h = record { same = λ p q wp wq ip jp iq jq. h.same p q wp wq ip (IsOnEdge-reversed c d p jp) iq (IsOnEdge-reversed c d q jq) }
 
-  met_turned : (m : Meeting) → (m ≡ meeting.Proper → ⊥) → IsMet m a b d c → IsMet m a b c d
-  met_turned meeting.Apart n h = record { none = λ z w i j. h.none z w i (IsOnEdge-turned c d z j) }
-  met_turned meeting.Touch n h = record { m = h.m; weight = h.weight; first = h.first; second = IsOnEdge-turned d c h.m h.second; lone = lone_turned h.lone; outer = λ x. h.outer (crossing_back x) }
-  met_turned meeting.Proper n h = absurd (n refl)
-  met_turned meeting.Stretch n h =
+  met_reversed : (m : Meeting) → (m ≡ meeting.Proper → ⊥) → IsMet m a b d c → IsMet m a b c d
+  met_reversed meeting.Apart n h = record { none = λ z w i j. h.none z w i (IsOnEdge-reversed c d z j) }
+  met_reversed meeting.Touch n h = record { m = h.m; weight = h.weight; first = h.first; second = IsOnEdge-reversed d c h.m h.second; lone = lone_reversed h.lone; outer = λ x. h.outer (crossing_back x) }
+  met_reversed meeting.Proper n h = absurd (n refl)
+  met_reversed meeting.Stretch n h =
       let s = h.shares in
       record {
         shares = record {
@@ -224,12 +224,12 @@ module _ (a b c d : Point) where
           weight_p = s.weight_p;
           weight_q = s.weight_q;
           first_p = s.first_p;
-          second_p = IsOnEdge-turned d c s.p s.second_p;
+          second_p = IsOnEdge-reversed d c s.p s.second_p;
           first_q = s.first_q;
-          second_q = IsOnEdge-turned d c s.q s.second_q;
+          second_q = IsOnEdge-reversed d c s.q s.second_q;
           differ = s.differ;
         };
-        crossing = crossing_turned h.crossing;
+        crossing = crossing_reversed h.crossing;
         flat_c = h.flat_d;
         flat_d = h.flat_c;
       }
@@ -257,7 +257,7 @@ pub line_down : (m : Meeting) (a b c d : Point) (l r s : ℤ) → a ≢ b → c 
     → s ≤ℤ r → IsOverlap m l s r → IsMet m a b c d
 line_down m a b c d l r s n k tc td e f g h o =
     let u : reach a b (at d) <ℤ reach a b (at c) = by_lt_z (reach a b (at d)) (reach a b (at c)) (λ x. x) (λ x. absurd (reach_differ a b c d n k tc td (omega (arith, ints)))) in
-    met_turned a b c d m (no_proper a b c d m l s r o) (rising_met a b d c n (λ x. k (sym x)) td tc u m (rw (e, f, g) at o))
+    met_reversed a b c d m (no_proper a b c d m l s r o) (rising_met a b d c n (λ x. k (sym x)) td tc u m (rw (e, f, g) at o))
 
 pub less_yes : (u v : ℤ) → lt_z u v ≡ true → u <ℤ v
 less_yes u v e = omega (arith, ints)

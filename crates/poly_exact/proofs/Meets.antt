@@ -8,8 +8,8 @@ use Rattle.poly_exact.specs.declared.points.Point.{Point}
 use Rattle.poly_exact.specs.Places.{Place, turn, IsBetween, IsOnEdge}
 use Rattle.poly_exact.specs.Met.{AreAlike, AreParted, IsOneZero, AreBeyond, AreApart, IsLone, Crossing, DoTouch, DoCross}
 use Rattle.poly_exact.proofs.Whole.{expand, polys, mul-pos, zero-of-mul, neg-mul}
-use Rattle.poly_exact.proofs.Crossings.{turn_first, turn-turned, IsOnEdge-turned}
-use Rattle.poly_exact.proofs.Shifts.{IsInside-turned}
+use Rattle.poly_exact.proofs.Crossings.{turn_first, turn-reversed, IsOnEdge-reversed}
+use Rattle.poly_exact.proofs.Shifts.{IsInside-reversed}
 use Rattle.poly_exact.proofs.VertexPlaces.{at, first_on, second_on}
 use Rattle.poly_exact.proofs.CrossingPlace.{same_weight}
 use Rattle.poly_exact.proofs.EdgeEnds.{ends_apart}
@@ -124,20 +124,20 @@ IsLone-swapped a b c d h = record { same = λ p q wp wq ip jp iq jq. h.same p q 
 -- ---- parted both ways
 
 turn-swapped : (a b : Point) (p : Place) → pos 0 <ℤ turn a b p → turn b a p <ℤ pos 0
-turn-swapped a b p h = let e = turn-turned a b p in omega (arith, ints)
+turn-swapped a b p h = let e = turn-reversed a b p in omega (arith, ints)
 
 turn-swapped-back : (a b : Point) (p : Place) → turn a b p <ℤ pos 0 → pos 0 <ℤ turn b a p
-turn-swapped-back a b p h = let e = turn-turned a b p in omega (arith, ints)
+turn-swapped-back a b p h = let e = turn-reversed a b p in omega (arith, ints)
 
-Parted-turned : (a b : Point) (p q : Place) → AreParted (turn a b p) (turn a b q) → AreParted (turn b a p) (turn b a q)
-Parted-turned a b p q o = elim o [
+Parted-reversed : (a b : Point) (p q : Place) → AreParted (turn a b p) (turn a b q) → AreParted (turn b a p) (turn b a q)
+Parted-reversed a b p q o = elim o [
   | inl h ↦ inr (turn-swapped a b p h.0, turn-swapped-back a b q h.1)
   | inr h ↦ inl (turn-swapped-back a b p h.0, turn-swapped a b q h.1)
 ]
 
 pub parted_crossing : (a b c d : Point) → a ≢ b → c ≢ d → AreParted (turn c d (at a)) (turn c d (at b)) → AreParted (turn a b (at c)) (turn a b (at d)) → Crossing a b c d
 parted_crossing a b c d n k o r = elim o [
-  | inl h ↦ (let m = crossing b a c d (λ e. n (sym e)) k h.1 h.0 (Parted-turned a b (at c) (at d) r) in record { m = m.m; weight = m.weight; first = IsInside-turned b a m.m m.first; second = m.second })
+  | inl h ↦ (let m = crossing b a c d (λ e. n (sym e)) k h.1 h.0 (Parted-reversed a b (at c) (at d) r) in record { m = m.m; weight = m.weight; first = IsInside-reversed b a m.m m.first; second = m.second })
   | inr h ↦ (let m = crossing a b c d n k h.0 h.1 r in record { m = m.m; weight = m.weight; first = m.first; second = m.second })
 ]
 
@@ -169,15 +169,15 @@ touch_right a b c d z n o =
     (by_lt_z (pos 0) (turn c d (at a)) (λ h. absurd (o (inl (h, omega (arith, ints))))) (λ h. h))
     (by_lt_z (turn c d (at b)) (pos 0) (λ h. absurd (o (inr (omega (arith, ints), h)))) (λ h. h))
 
-alike_turned : (t u : ℤ) → AreAlike t u → AreAlike u t
-alike_turned t u o = elim o [ inl h ↦ inl (h.1, h.0) | inr h ↦ inr (h.1, h.0) ]
+AreAlike-swap : (t u : ℤ) → AreAlike t u → AreAlike u t
+AreAlike-swap t u o = elim o [ inl h ↦ inl (h.1, h.0) | inr h ↦ inr (h.1, h.0) ]
 
 touch_first : (a b c d : Point) → turn a b (at c) ≡ pos 0 → turn a b (at d) ≢ pos 0 → (AreAlike (turn c d (at a)) (turn c d (at b)) → ⊥) → IsOnEdge a b (at c)
 touch_first a b c d z n o = by_lt_z (turn a b (at d)) (pos 0)
     (λ h. touch_right a b c d z h o)
-    (λ h. let e = turn-turned a b (at d) in let f = turn-turned a b (at c) in
+    (λ h. let e = turn-reversed a b (at d) in let f = turn-reversed a b (at c) in
     let g : pos 0 <ℤ turn a b (at d) = by_lt_z (pos 0) (turn a b (at d)) (λ k. k) (λ k. absurd (n (omega (arith, ints)))) in
-    IsOnEdge-turned b a (at c) (touch_right b a c d (omega (arith, ints)) (omega (arith, ints)) (λ k. o (alike_turned _ _ k))))
+    IsOnEdge-reversed b a (at c) (touch_right b a c d (omega (arith, ints)) (omega (arith, ints)) (λ k. o (AreAlike-swap _ _ k))))
 
 alike_negated : (t u t' u' : ℤ) → t' ≡ neg_ℤ t → u' ≡ neg_ℤ u → AreAlike t' u' → AreAlike t u
 alike_negated t u t' u' e f o = elim o [
@@ -192,7 +192,7 @@ one_touch a b c d z o =
     let outer : Crossing a b c d → ⊥ = λ x. one_zero_parted _ _ z (ends_apart c d a b x.m x.second x.first.on.line) in
     elim z [
       | inl h ↦ record { m = at c; weight = one; first = touch_first a b c d h.0 h.1 o; second = first_on c d; lone = lone; outer = outer }
-      | inr h ↦ record { m = at d; weight = one; first = touch_first a b d c h.1 h.0 (λ k. o (alike_negated _ _ _ _ (turn-turned c d (at a)) (turn-turned c d (at b)) k)); second = second_on c d; lone = lone; outer = outer }
+      | inr h ↦ record { m = at d; weight = one; first = touch_first a b d c h.1 h.0 (λ k. o (alike_negated _ _ _ _ (turn-reversed c d (at a)) (turn-reversed c d (at b)) k)); second = second_on c d; lone = lone; outer = outer }
     ]
 
 pub DoTouch-swapped : (a b c d : Point) → DoTouch c d a b → DoTouch a b c d

@@ -7,7 +7,7 @@ use Rattle.std.proofs.lemmas.Int.{by_lt_z}
 use Rattle.poly_exact.specs.declared.points.Point.{Point}
 use Rattle.poly_exact.specs.Places.{Place, turn, reach, IsOnEdge, IsInside, between}
 use Rattle.poly_exact.proofs.Whole.{weak, mul-pos}
-use Rattle.poly_exact.proofs.Crossings.{turn-between, turn-turned, IsOnEdge-turned}
+use Rattle.poly_exact.proofs.Crossings.{turn-between, turn-reversed, IsOnEdge-reversed}
 use Rattle.poly_exact.proofs.Local.{mixed_weight}
 use Rattle.poly_exact.proofs.Inner.{reach-between, reach_on, IsOnEdge-between}
 use Rattle.poly_exact.proofs.VertexPlaces.{at, first_on, second_on}
@@ -26,7 +26,7 @@ left_apart a b c d z n w x y o r =
     let l = dx *ℤ dx +ℤ dy *ℤ dy in
     let long = long_edge c d n in
     let m = mix_of c d z r in
-    let s = reach_on d c z w (IsOnEdge-turned c d z r) in
+    let s = reach_on d c z w (IsOnEdge-reversed c d z r) in
     let t = reach_on c d z w r in
     let sum : pos 0 <ℤ (reach d c z +ℤ reach c d z) = rw m.1 (let g = mul-pos l z.w long w in omega (arith, ints)) in
     let e : reach d c z *ℤ turn a b (at c) +ℤ reach c d z *ℤ turn a b (at d) ≡ pos 0 =
@@ -37,9 +37,9 @@ left_apart a b c d z n w x y o r =
 -- and strictly at the right
 pub right_apart : (a b c d : Point) (z : Place) → c ≢ d → pos 0 <ℤ z.w → turn a b (at c) <ℤ pos 0 → turn a b (at d) <ℤ pos 0 → IsOnEdge a b z → IsOnEdge c d z → ⊥
 right_apart a b c d z n w x y o r =
-    let e = turn-turned a b (at c) in
-    let f = turn-turned a b (at d) in
-    left_apart b a c d z n w (omega (arith, ints)) (omega (arith, ints)) (IsOnEdge-turned a b z o) r
+    let e = turn-reversed a b (at c) in
+    let f = turn-reversed a b (at d) in
+    left_apart b a c d z n w (omega (arith, ints)) (omega (arith, ints)) (IsOnEdge-reversed a b z o) r
 
 -- ---- the place of a crossing
 
@@ -155,7 +155,7 @@ module _ (a b c d : Point) (proper : a ≢ b) (other : c ≢ d) (tc : turn a b (
             let f : half.w *ℤ reach a b (at c) ≡ pos 2 *ℤ reach a b (at c) = ap (λ z. z *ℤ reach a b (at c)) half_weight in
             absurd (omega (arith, ints))));
         from_second = by_lt_z (pos 0) (reach d c half) (λ x. x) (λ x.
-            (let o = IsOnEdge-turned c d half half_on in
+            (let o = IsOnEdge-reversed c d half half_on in
             let n = reach_on d c half w o in
             let h = first_at d c (long_edge d c (λ e. other (sym e))) half o (omega (arith, ints)) in
             let e = reach_at a b d half h in

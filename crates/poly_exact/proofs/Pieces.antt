@@ -11,7 +11,7 @@ use Rattle.poly_exact.specs.Rings.{vertex, next, crossings, IsOnRing, IsAt}
 use Rattle.poly_exact.proofs.RingLaw.{IsClearOf, segment_law, next-more, next-last}
 use Rattle.poly_exact.proofs.SamePoints.{IsOnEdge-same}
 use Rattle.poly_exact.proofs.Whole.{weak, mul-assoc, pos-of-mul, expand, polys, mul-pos, mul-nonneg, mul-np, mul-pn, mul-nn, mul-le, zero-of-mul, nonneg-of-mul, nonpos-of-mul}
-use Rattle.poly_exact.proofs.Crossings.{turn_first, IsOnEdge-turned}
+use Rattle.poly_exact.proofs.Crossings.{turn_first, IsOnEdge-reversed}
 use Rattle.poly_exact.proofs.Inner.{IsOnEdge-between, reach_middle, reach-between, reach_on}
 use Rattle.poly_exact.proofs.Local.{mixed_weight}
 use Rattle.poly_exact.proofs.VertexPlaces.{at}
@@ -232,7 +232,7 @@ module _ (a b : Point) (ws : List Point) (lo hi : ℤ) (proper : a ≢ b) (sw : 
                 (let m = mul-le r.w hi _ (weak wr) dh in let n = *ℤ_comm r.w hi in omega (arith, ints))
           ]
           | inr ch ↦ elim xd [
-            | inl dl ↦ IsOnEdge-turned d c r (on_between a b d c long td tc r wr or.line
+            | inl dl ↦ IsOnEdge-reversed d c r (on_between a b d c long td tc r wr or.line
                 (let m = mul-le r.w _ lo (weak wr) dl in let n = *ℤ_comm r.w lo in omega (arith, ints))
                 (let m = mul-le r.w hi _ (weak wr) ch in let n = *ℤ_comm r.w hi in omega (arith, ints)))
             | inr dh ↦ (let m = mul-le x.s hi _ (weak s) ch in let n = mul-le x.r hi _ (weak t) dh in
@@ -251,8 +251,8 @@ module _ (a b : Point) (ws : List Point) (lo hi : ℤ) (proper : a ≢ b) (sw : 
         let c = vertex ws k in
         let d = vertex ws (next ws k) in
         let first = by_lt_z (pos 0) (reach c d z) (λ x. x) (λ x. let n = reach_on c d z wz o in absurd (not_at k h (first_at c d (long_edge c d (sw k h)) z o (omega (arith, ints))))) in
-        let second = by_lt_z (pos 0) (reach d c z) (λ x. x) (λ x. let n = reach_on d c z wz (IsOnEdge-turned c d z o) in
-        absurd (not_at (next ws k) (next-below ws k h) (first_at d c (long_edge d c (λ e. sw k h (sym e))) z (IsOnEdge-turned c d z o) (omega (arith, ints))))) in
+        let second = by_lt_z (pos 0) (reach d c z) (λ x. x) (λ x. let n = reach_on d c z wz (IsOnEdge-reversed c d z o) in
+        absurd (not_at (next ws k) (next-below ws k h) (first_at d c (long_edge d c (λ e. sw k h (sym e))) z (IsOnEdge-reversed c d z o) (omega (arith, ints))))) in
         let i : IsInside c d z = record { on = o; from_first = first; from_second = second } in
         let s = same_weight a b c d in
         let ab = ends_apart a b c d z inside_z o.line in
@@ -270,8 +270,8 @@ module _ (a b : Point) (ws : List Point) (lo hi : ℤ) (proper : a ≢ b) (sw : 
           ]
         ]
 
-turned_round : (x u w : ℤ) → (x *ℤ u) *ℤ w ≡ u *ℤ (x *ℤ w)
-turned_round x u w = simp expand (omega (arith, polys))
+factors-swap : (x u w : ℤ) → (x *ℤ u) *ℤ w ≡ u *ℤ (x *ℤ w)
+factors-swap x u w = simp expand (omega (arith, polys))
 
 -- the whole way from r to s
 module _ (a b : Point) (ws : List Point) (lo hi : ℤ) (proper : a ≢ b) (sw : (k : ℕ) → k < length ws → vertex ws k ≢ vertex ws (next ws k)) (q : IsQuiet a b ws lo hi)
@@ -314,7 +314,7 @@ module _ (a b : Point) (ws : List Point) (lo hi : ℤ) (proper : a ≢ b) (sw : 
             edge = k;
             below = h;
             on = IsOnEdge-same _ _ z r (subst (λ t. pos 0 <ℤ t) (sym ew) (mul-pos x r.w xp wr)) wr
-                (rw (ex, ew) (turned_round x r.x r.w)) (rw (ey, ew) (turned_round x r.y r.w)) o';
+                (rw (ex, ew) (factors-swap x r.x r.w)) (rw (ey, ew) (factors-swap x r.y r.w)) o';
           }));
     };
   }

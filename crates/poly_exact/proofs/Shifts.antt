@@ -9,8 +9,8 @@ use Rattle.std.proofs.lemmas.Bool.{false≢true}
 use Rattle.poly_exact.specs.declared.points.Point.{Point}
 use Rattle.poly_exact.specs.Places.{Place, above, turn, IsOnEdge, IsInside, is_under, IsNear}
 use Rattle.poly_exact.proofs.Whole.{weak, expand, polys, neg-mul, mul-neg, mul-nonneg, mul-pos, mul-neg-pos, mul-pos-neg, mul-neg-neg, pos-of-mul, neg-of-mul}
-use Rattle.poly_exact.proofs.Crossings.{side, turn-turned, IsOnEdge-turned}
-use Rattle.poly_exact.proofs.EdgeLaw.{AreOrdered, under_yes, yes_under, counted-turned, same_tests}
+use Rattle.poly_exact.proofs.Crossings.{side, turn-reversed, IsOnEdge-reversed}
+use Rattle.poly_exact.proofs.EdgeLaw.{AreOrdered, under_yes, yes_under, counted-reversed, same_tests}
 use Rattle.poly_exact.proofs.Flips.{Law, left_rising, right_of_rising, inside_first, inside_second, below_level, above_level}
 
 -- the place one n-th to the right (dx = 1), the left (-1), higher or lower
@@ -105,28 +105,28 @@ flanks_rising a b m n rise w h i =
       keeps = inl (record { first = hw; second = w; order = (let e = same_height n m.y m.w in omega (arith, ints)) }, right_of_rising a b r m hw w (same_height n m.y m.w) rise line ua ub (weak tr));
     }
 
-pub Law-turned : (a b : Point) (p m : Place) (x : ℕ) → a.y <ℤ b.y → Law a b p m x → Law b a p m x
-Law-turned a b p m x h l = rw (counted-turned a b p h, counted-turned a b m h) (omega arith)
+pub Law-reversed : (a b : Point) (p m : Place) (x : ℕ) → a.y <ℤ b.y → Law a b p m x → Law b a p m x
+Law-reversed a b p m x h l = rw (counted-reversed a b p h, counted-reversed a b m h) (omega arith)
 
-Flanks-turned : (a b : Point) (m : Place) (n : ℤ) → a.y <ℤ b.y → Flanks a b m n → Flanks b a m n
-Flanks-turned a b m n h f = record {
+Flanks-reversed : (a b : Point) (m : Place) (n : ℤ) → a.y <ℤ b.y → Flanks a b m n → Flanks b a m n
+Flanks-reversed a b m n h f = record {
   p = f.p;
   q = f.q;
   near_p = f.near_p;
   near_q = f.near_q;
-  off_p = λ o. f.off_p (IsOnEdge-turned b a f.p o);
-  off_q = λ o. f.off_q (IsOnEdge-turned b a f.q o);
-  apart = (let u = turn-turned a b f.p in let v = turn-turned a b f.q in elim f.apart [
+  off_p = λ o. f.off_p (IsOnEdge-reversed b a f.p o);
+  off_q = λ o. f.off_q (IsOnEdge-reversed b a f.q o);
+  apart = (let u = turn-reversed a b f.p in let v = turn-reversed a b f.q in elim f.apart [
     | inl t ↦ (let t0 = t.0 in let t1 = t.1 in inr (omega (arith, ints), omega (arith, ints)))
     | inr t ↦ (let t0 = t.0 in let t1 = t.1 in inl (omega (arith, ints), omega (arith, ints)))
   ]);
   order = f.order;
-  flips = Law-turned a b f.p m 1 h f.flips;
-  keeps = elim f.keeps [ inl l ↦ inl (l.0, Law-turned a b f.q m 0 h l.1) | inr l ↦ inr (l.0, Law-turned a b m f.q 0 h l.1) ];
+  flips = Law-reversed a b f.p m 1 h f.flips;
+  keeps = elim f.keeps [ inl l ↦ inl (l.0, Law-reversed a b f.q m 0 h l.1) | inr l ↦ inr (l.0, Law-reversed a b m f.q 0 h l.1) ];
 }
 
-pub IsInside-turned : (a b : Point) (m : Place) → IsInside a b m → IsInside b a m
-IsInside-turned a b m i = record { on = IsOnEdge-turned a b m i.on; from_first = i.from_second; from_second = i.from_first }
+pub IsInside-reversed : (a b : Point) (m : Place) → IsInside a b m → IsInside b a m
+IsInside-reversed a b m i = record { on = IsOnEdge-reversed a b m i.on; from_first = i.from_second; from_second = i.from_first }
 
 -- ---- a level edge
 
@@ -209,5 +209,5 @@ pub flanks : (a b : Point) (m : Place) (n : ℤ) → pos 0 <ℤ m.w → pos 0 <�
 flanks a b m n w h i = by_lt_z a.y b.y
     (λ l. flanks_rising a b m n (omega (arith, ints)) w h i)
     (λ l. by_lt_z b.y a.y
-    (λ k. Flanks-turned b a m n k (flanks_rising b a m n (omega (arith, ints)) w h (IsInside-turned a b m i)))
+    (λ k. Flanks-reversed b a m n k (flanks_rising b a m n (omega (arith, ints)) w h (IsInside-reversed a b m i)))
     (λ k. flanks_level a b m n (omega (arith, ints)) w h i))

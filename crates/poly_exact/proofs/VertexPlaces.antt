@@ -5,7 +5,7 @@ use borrow.Author.Differences.{ints}
 use Rattle.std.proofs.lemmas.Int.{clamps}
 use Rattle.poly_exact.specs.declared.points.Point.{Point}
 use Rattle.poly_exact.specs.Places.{Place, IsBetween, IsOnEdge}
-use Rattle.poly_exact.proofs.Crossings.{IsOnEdge-turned}
+use Rattle.poly_exact.proofs.Crossings.{IsOnEdge-reversed}
 
 abbrev pub at : Point → Place
 at v = record { x = v.x; y = v.y; w = pos 1 }
@@ -23,4 +23,4 @@ pub first_on : (a b : Point) → IsOnEdge a b (at a)
 first_on a b = record { line = zero_at a.x a.y (b.y -ℤ a.y) (b.x -ℤ a.x); across = end_range a.x b.x; along = end_range a.y b.y }
 
 pub second_on : (a b : Point) → IsOnEdge a b (at b)
-second_on a b = IsOnEdge-turned b a (at b) (first_on b a)
+second_on a b = IsOnEdge-reversed b a (at b) (first_on b a)

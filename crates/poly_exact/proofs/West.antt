@@ -9,14 +9,14 @@ use Rattle.poly_exact.specs.declared.points.Point.{Point}
 use Rattle.poly_exact.specs.Places.{Place, above, turn, IsOnEdge, IsInside, IsClear, is_under, counted, between}
 use Rattle.poly_exact.specs.Rings.{vertex, next, crossings, IsSimple}
 use Rattle.poly_exact.proofs.Whole.{weak, mul-pos, zero-of-mul, pos-of-mul, neg-mul}
-use Rattle.poly_exact.proofs.Crossings.{side, plane_first, IsOnEdge-turned}
+use Rattle.poly_exact.proofs.Crossings.{side, plane_first, IsOnEdge-reversed}
 use Rattle.poly_exact.proofs.EdgeLaw.{AreOrdered, count_of, inside, inside_of, edge_law}
 use Rattle.poly_exact.proofs.RingLaw.{one_law}
 use Rattle.poly_exact.proofs.Boxes.{moved}
 use Rattle.poly_exact.proofs.Local.{mixed_weight}
 use Rattle.poly_exact.proofs.Inner.{IsOnEdge-between, reach-between}
 use Rattle.poly_exact.proofs.Flips.{Law, left_rising, inside_first, inside_second}
-use Rattle.poly_exact.proofs.Shifts.{IsInside-turned, Law-turned, level_height}
+use Rattle.poly_exact.proofs.Shifts.{IsInside-reversed, Law-reversed, level_height}
 use Rattle.poly_exact.proofs.Sides.{alone}
 
 -- ---- an edge that both places are on counts for neither
@@ -60,7 +60,7 @@ line_law a b p q o r =
     let e = counted-line a b p o.line in
     let f = counted-line a b q r.line in
     let g = inside-side p q a (side_zero a b p q o r) in
-    let h = inside-side p q b (side_zero b a p q (IsOnEdge-turned a b p o) (IsOnEdge-turned a b q r)) in
+    let h = inside-side p q b (side_zero b a p q (IsOnEdge-reversed a b p o) (IsOnEdge-reversed a b q r)) in
     omega arith
 
 pub IsInside-between : (a b : Point) (s t : ℤ) (p q : Place) → pos 0 ≤ℤ s → pos 0 ≤ℤ t → pos 0 <ℤ (s +ℤ t) → pos 0 <ℤ p.w → pos 0 <ℤ q.w → IsInside a b p → IsInside a b q → IsInside a b (between s t p q)
@@ -101,8 +101,8 @@ ray_edge a b p m n pw mw i height left = by_lt_z a.y b.y
     (λ l. let rise : pos 0 <ℤ (b.y -ℤ a.y) = omega (arith, ints) in
     left_rising a b p m pw mw height rise i.on.line (inside_first a b m rise mw i) (inside_second a b m rise mw i) (left_turn a b p m rise mw i.on.line height left))
     (λ l. by_lt_z b.y a.y
-    (λ k. let rise : pos 0 <ℤ (a.y -ℤ b.y) = omega (arith, ints) in let j = IsInside-turned a b m i in
-    Law-turned b a p m 1 k (left_rising b a p m pw mw height rise j.on.line (inside_first b a m rise mw j) (inside_second b a m rise mw j) (left_turn b a p m rise mw j.on.line height left)))
+    (λ k. let rise : pos 0 <ℤ (a.y -ℤ b.y) = omega (arith, ints) in let j = IsInside-reversed a b m i in
+    Law-reversed b a p m 1 k (left_rising b a p m pw mw height rise j.on.line (inside_first b a m rise mw j) (inside_second b a m rise mw j) (left_turn b a p m rise mw j.on.line height left)))
     (λ k. absurd (n (omega (arith, ints)))))
 
 -- all other edges of the ring are clear of the way from p to m

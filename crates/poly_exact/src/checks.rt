@@ -1,11 +1,11 @@
 //! Whether a list of vertices is a simple ring, and on which side of each edge its inside lies.
 //!
-//! Two edges may meet only where one follows the other, at the vertex between them. The pairs are tested in order, so that
-//! the first bad one is found; blocks whose rectangle an edge lies off are left out.
+//! Two edges may meet only where one follows the other, at the vertex between them. The pairs are tested in order, so
+//! that the first bad one is found; blocks whose rectangle an edge lies off are left out.
 //!
-//! All points strictly inside an edge of a simple ring see the same parity of edges at their right, and points a little to
-//! the west of them see the other. So the west side of an edge is in the ring where the ray from its middle crosses an
-//! even number of edges, the edge itself not counted.
+//! All points strictly inside an edge of a simple ring see the same parity of edges at their right, and points a little
+//! to the west of them see the other. So the west side of an edge is in the ring where the ray from its middle crosses
+//! an even number of edges, the edge itself not counted.
 
 ghost use Rattle.std.specs.Prelude.{◌≡◌, ℕ, ◌<◌, ◌≤◌, length, IsTrue, ◌↔◌};
 ghost use Rattle.poly_exact.specs.Small.{IsSmallHalfPoint, place};
@@ -14,7 +14,8 @@ ghost use Rattle.poly_exact.specs.Located.{AreSmall};
 ghost use Rattle.poly_exact.specs.West.{IsWest};
 ghost use Rattle.std.specs.Prelude.{◌*◌};
 ghost use Rattle.poly_exact.specs.Rects.{AreBlocks, block_end};
-ghost use Rattle.poly_exact.specs.Checks.{AreGoodTo, AreProper, IsGoodPair, IsBlockChecked, IsChecked, IsEdgeChecked, IsParity};
+ghost use Rattle.poly_exact.specs.Checks.{AreGoodTo, AreProper, IsGoodPair, IsBlockChecked, IsChecked, IsEdgeChecked};
+ghost use Rattle.poly_exact.specs.Checks.{IsParity};
 
 use crate::edges::{Meeting, meet};
 use crate::locations::{RayHit, cast_ray};
@@ -101,7 +102,8 @@ pub fn check(vs: &[Point], blocks: &[Rect]) -> Simplicity
     Simplicity::Simple
 }
 
-/// Whether the point's ray crosses an odd number of edges up to the end of the block. `start` is whether it does before.
+/// Whether the point's ray crosses an odd number of edges up to the end of the block. `start` is whether it does
+/// before.
 fn is_odd_after(vs: &[Point], b: usize, p: HalfPoint, start: bool) -> bool
     requires vertices { AreSmall vs.now }
     requires point { IsSmallHalfPoint p }

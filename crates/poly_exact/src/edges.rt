@@ -1,9 +1,9 @@
 //! How two edges meet, by the signs of four turns.
 //!
-//! Where both ends of one edge lie strictly at one side of the other's line, the edges are apart. Where each has its ends
-//! strictly at the two sides of the other, they cross at one point strictly inside both, which need not be computed. Where
-//! an end lies on the other's line, they touch at one point or are apart. Where both edges lie on one line, four
-//! comparisons of how far the ends reach along it decide.
+//! Where both ends of one edge lie strictly at one side of the other's line, the edges are apart. Where each has its
+//! ends strictly at the two sides of the other, they cross at one point strictly inside both, which need not be
+//! computed. Where an end lies on the other's line, they touch at one point or are apart. Where both edges lie on one
+//! line, four comparisons of how far the ends reach along it decide.
 
 ghost use Rattle.std.specs.Prelude.{◌≡◌, ◌≢◌, ℤ, pos, ◌<ℤ◌, ◌≤ℤ◌, IsTrue};
 ghost use Rattle.poly_exact.specs.Places as specs;

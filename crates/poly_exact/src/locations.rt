@@ -1,7 +1,7 @@
 //! Where a point lies to a ring, by casting a ray to the right.
 //!
-//! The point is in the ring where the ray crosses an odd number of edges (Shimrat 1962). Blocks of edges whose rectangle
-//! the ray passes are left out: it crosses none of their edges.
+//! The point is in the ring where the ray crosses an odd number of edges (Shimrat 1962). Blocks of edges whose
+//! rectangle the ray passes are left out: it crosses none of their edges.
 
 ghost use Rattle.std.specs.Prelude.{◌≡◌, ◌<◌, ◌≤◌, length, IsTrue, ◌↔◌, ◌*ℤ◌, pos, true, ℕ, ℤ};
 ghost use Rattle.std.specs.Prelude.{IfNone, IfSome, ◌*◌};
