@@ -1,9 +1,10 @@
 //! The lines of a text, as a reader of files goes over them.
 //!
-//! A reader takes the lines that have tokens in order, and its first faulty line decides. So a line with a byte that isn't
-//! allowed is a fault only where it is reached: `FileLines` cuts a line when it is asked for the next one, passes over
-//! lines without tokens, and stops in front of a line that can't be read. It takes no memory, and goes over each byte once.
-ghost use Rattle.std.specs.Prelude.{◌≡◌, ◌≤◌, [], ◌∷◌, length, None, Some, MatchOption};
+//! A reader takes the lines that have tokens in order, and its first faulty line decides. So a line with a byte that
+//! isn't allowed is a fault only where it is reached: `FileLines` cuts a line when it is asked for the next one, passes
+//! over lines without tokens, and stops in front of a line that can't be read. It takes no memory, and goes over each
+//! byte once.
+ghost use Rattle.std.specs.Prelude.{◌≡◌, ◌≤◌, [], ◌∷◌, drop, length, None, Some, MatchOption};
 ghost use Rattle.qsr_lex.specs.TokenLines.{token_line};
 ghost use Rattle.qsr_lex.specs.declared.TheConstants.{MAX_TEXT};
 ghost use Rattle.line_files.specs.FileText.{file_text, line_of, extra_line, IsEndWithin};
@@ -127,9 +128,11 @@ impl<'a> FileLines<'a> {
     }
 
     /// The number of the next line that has tokens or can't be read, where there is one. After an end
-    /// line there may be none.
+    /// line there may be none. A line that has tokens is moved past.
     pub fn extra_line(&mut self) -> Option<u32>
-        ensures { result ≡ extra_line self.old.lines self.old.end }
+        ensures value { result ≡ extra_line self.old.lines self.old.end }
+        ensures rest { self.new.lines ≡ drop 1 self.old.lines }
+        ensures end { self.new.end ≡ self.old.end }
     {
         if let Some(line) = self.next_line() {
             return Some(line.number);

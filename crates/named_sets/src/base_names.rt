@@ -1,9 +1,9 @@
 //! The names of base relations, looked up by their bytes.
 //!
-//! A name's bytes are hashed to one of `HINTS` places, where the base relation stands that was hashed there last. It is a
-//! hint only: its name is compared, and where that is another, all names are tried one after another. So what is found
-//! doesn't depend on the hash, and a look-up costs the hash and one comparison, unless two names meet at one place. 64 names
-//! among 1,024 places meet twice on average.
+//! A name's bytes are hashed to one of `HINTS` places, where the base relation stands that was hashed there last. It is
+//! a hint only: its name is compared, and where that is another, all names are tried one after another. So what is
+//! found doesn't depend on the hash, and a look-up costs the hash and one comparison, unless two names meet at one
+//! place. 64 names among 1,024 places meet twice on average.
 ghost use Rattle.std.specs.Prelude.{◌≡◌, ◌<◌, ◌≤◌, true, map, length, IfSome, Some, None, if◌then◌else◌};
 ghost use Rattle.named_sets.specs.Named.{IsAt};
 ghost use Rattle.std.specs.List.{list_all};

@@ -1,8 +1,8 @@
 //! Sets of base relations, read by the names of their members.
 //!
-//! A set is written `(`, then names, then `)`. Its tokens are taken one after another, and each name is looked up at once, so
-//! no list of names is made. A name that no base relation has makes the set unknown, but the names after it are still read,
-//! since a fault of form counts before an unknown name.
+//! A set is written `(`, then names, then `)`. Its tokens are taken one after another, and each name is looked up at
+//! once, so no list of names is made. A name that no base relation has makes the set unknown, but the names after it
+//! are still read, since a fault of form counts before an unknown name.
 ghost use Rattle.std.specs.Prelude.{◌≡◌, ◌-◌, ◌^◌, ◌<◌, length, IfSome, None, Some, MatchOption};
 ghost use Rattle.calculus_table.specs.Rel.{IsWithin};
 ghost use Rattle.named_sets.specs.Named.{set_at, with_member};
@@ -11,8 +11,9 @@ use crate::base_names::BaseNames;
 use calculus_table::Rel;
 use qsr_lex::{TokenKind, TokenReader};
 
-/// Returns the set of the names in brackets that come next, and moves past them. The set is none inside where one of them
-/// is the name of no base relation. Without names in brackets there is none, and the reader stands somewhere in the line.
+/// Returns the set of the names in brackets that come next, and moves past them. The set is none inside where one of
+/// them is the name of no base relation. Without names in brackets there is none, and the reader stands somewhere in
+/// the line.
 pub fn read_set(tokens: &mut TokenReader<'_>, bases: &BaseNames<'_>) -> Option<Option<Rel>>
     ensures value { MatchOption result (set_at bases.now tokens.old ≡ None)
         (λ set. set_at bases.now tokens.old ≡ Some (set, tokens.new)) }

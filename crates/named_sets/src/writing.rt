@@ -1,8 +1,8 @@
 //! Sets of base relations, written by the names of their members.
 //!
-//! A set's line is made once and kept: a set is hashed to one of `SLOTS` places, and where the line that is kept there is
-//! that of the set it is appended as it stands; else it is made anew and kept there. Texts of networks repeat few sets many
-//! times, so most lines cost one copy, however many members a set has.
+//! A set's line is made once and kept: a set is hashed to one of `SLOTS` places, and where the line that is kept there
+//! is that of the set it is appended as it stands; else it is made anew and kept there. Texts of networks repeat few
+//! sets many times, so most lines cost one copy, however many members a set has.
 ghost use Rattle.std.specs.Prelude.{◌≡◌, ◌<◌, ◌++◌, length, replicate, codes, None, IfOk, OnOk, OnErr};
 ghost use Rattle.std.specs.String.{string_bytes};
 ghost use Rattle.named_sets.specs.Written.{member_text, set_text, set_line};

@@ -1,8 +1,8 @@
 //! The lines and tokens of a text, and its numbers and names.
 //!
-//! A text is cut into lines, and what of a line stands outside its comment into tokens: brackets, commas, colons and words.
-//! `lines` gives all tokens of a text at once. A reader of files goes from line to line with `first_line`, and from token to
-//! token with a `TokenReader`, which cuts a token when it is asked for it:
+//! A text is cut into lines, and what of a line stands outside its comment into tokens: brackets, commas, colons and
+//! words. `lines` returns all tokens of a text at once. A reader of files goes from line to line with `first_line`, and
+//! from token to token with a `TokenReader`, which cuts a token when it is asked for it:
 //!
 //! ```text
 //! let mut tokens = TokenReader::new(b"names ( A B )");

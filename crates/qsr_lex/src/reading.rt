@@ -1,15 +1,17 @@
 //! The tokens of a line, one after another.
 //!
-//! A `TokenReader` stands over the bytes of a line that are left, and cuts a token only when it is asked for it: it passes
-//! over blanks, and takes the longest run of bytes that make one token. So a line takes no memory, each of its bytes is
-//! read once where the tokens are of the kind that is asked for, and a reader that gives up goes no further. Each token
-//! has a byte at least, so whoever takes tokens until none is left comes to the end.
-ghost use Rattle.std.specs.Prelude.{◌≡◌, ◌↔◌, [], ◌∷◌, None, Some, MatchOption, MatchBool, IsTrue, IfOk, IfSome, All, true, false, IsErrOf, map};
+//! A `TokenReader` stands over the bytes of a line that are left, and cuts a token only when it is asked for it: it
+//! passes over blanks, and takes the longest run of bytes that make one token. So a line takes no memory, each of its
+//! bytes is read once where the tokens are of the kind that is asked for, and a reader that gives up goes no further.
+//! Each token has a byte at least, so whoever takes tokens until none is left comes to the end.
+ghost use Rattle.std.specs.Prelude.{◌≡◌, ◌↔◌, [], ◌∷◌, None, Some, MatchOption, MatchBool, IsTrue, IfOk, IfSome, All};
+ghost use Rattle.std.specs.Prelude.{true, false, IsErrOf, map};
 ghost use Rattle.std.specs.List.{prefix_len};
 ghost use Rattle.qsr_lex.specs.Bytes.{is_blank};
 ghost use Rattle.qsr_lex.specs.Names.{is_name};
 ghost use Rattle.qsr_lex.specs.Lexemes.{lexemes, lexeme_with, starts_with_blank};
-ghost use Rattle.qsr_lex.specs.LineTokens.{word_at, name_at, names_at, after_kind, after_word, is_end_line, is_same_kind, is_name_token, is_word_token};
+ghost use Rattle.qsr_lex.specs.LineTokens.{word_at, name_at, names_at, after_kind, after_word, is_end_line};
+ghost use Rattle.qsr_lex.specs.LineTokens.{is_same_kind, is_name_token, is_word_token};
 
 use crate::bytes::is_blank;
 use crate::names::is_name;

@@ -1,18 +1,20 @@
 //! From bytes to lines and tokens.
 //!
-//! A line ends with an LF, and a CR in front of the LF belongs to the line's end. `#` begins a comment, which lasts to the
-//! line's end and may hold any bytes. What stands before is cut into tokens from the left: `(`, `)`, `,`, `::`, `:`, and
-//! words, the longest runs of bytes that are neither blank nor one of these marks nor `#`.
+//! A line ends with an LF, and a CR in front of the LF belongs to the line's end. `#` begins a comment, which lasts to
+//! the line's end and may hold any bytes. What stands before is cut into tokens from the left: `(`, `)`, `,`, `::`,
+//! `:`, and words, the longest runs of bytes that are neither blank nor one of these marks nor `#`.
 //!
-//! `first_line` goes over a line once: up to the first byte that is `#` or not allowed outside comments. That byte is the
-//! line's end, or a comment, which is passed over, or the line can't be read. Each byte of a token is read once more where
-//! it is cut. Every loop goes forward through the text, so its end is in sight and the time is linear in its length; only
-//! `lines`, which returns all tokens at once, takes memory.
-ghost use Rattle.std.specs.Prelude.{◌≡◌, ◌≤◌, ◌<◌, ◌+◌, ◌++◌, length, IfOk, IfSome, OnOk, IfErr, MatchOption, MatchResult, Some, None, false, if◌then◌else◌};
+//! `first_line` goes over a line once: up to the first byte that is `#` or not allowed outside comments. That byte is
+//! the line's end, or a comment, which is passed over, or the line can't be read. Each byte of a token is read once
+//! more where it is cut. Every loop goes forward through the text, so its end is in sight and the time is linear in its
+//! length; only `lines`, which returns all tokens at once, takes memory.
+ghost use Rattle.std.specs.Prelude.{◌≡◌, ◌≤◌, ◌<◌, ◌+◌, ◌++◌, length, IfOk, IfSome, OnOk, IfErr, MatchOption};
+ghost use Rattle.std.specs.Prelude.{MatchResult, Some, None, false, if◌then◌else◌};
 ghost use Rattle.qsr_lex.specs.declared.tokens.TokenKind.TheVariants.{Colon, Colons};
 ghost use Rattle.std.specs.List.{prefix_len};
 ghost use Rattle.qsr_lex.specs.Bytes.{is_plain, is_word_byte};
-ghost use Rattle.qsr_lex.specs.TextLines.{line_count, first_line, first_line_len, after_end, is_clean, bad_line, IsFirstLine};
+ghost use Rattle.qsr_lex.specs.TextLines.{line_count, first_line, first_line_len, after_end, is_clean, bad_line};
+ghost use Rattle.qsr_lex.specs.TextLines.{IsFirstLine};
 ghost use Rattle.qsr_lex.specs.Lexemes.{starts_with_colon, tail_len, kind_of};
 ghost use Rattle.qsr_lex.specs.Tokens.{token_here, tokens_after, tokens_of, token_bytes, shown_bytes, AreApart};
 ghost use Rattle.qsr_lex.specs.TokenLines.{by_line, token_lines};

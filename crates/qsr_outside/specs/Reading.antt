@@ -1,4 +1,4 @@
--- What reading a source to its end answers.
+-- What reading a source to its end returns.
 use Rattle.std.specs.Prelude.{⊤, Result, Ok, Err}
 use Rattle.qsr_outside.specs.declared.reading.ReadStop.{ReadStop}
 use Rattle.qsr_outside.specs.declared.reading.ReadStop.TheVariants.{ReadFault, TooLong, Memory}

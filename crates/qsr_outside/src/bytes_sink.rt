@@ -1,4 +1,5 @@
-ghost use Rattle.std.specs.Prelude.{◌≡◌, ◌↔◌, ◌⊎◌, ◌+◌, ◌-◌, ◌++◌, ◌<◌, ◌≤◌, [], Some, Contains, length, min, take, IfOk, IsErr, OnErr, OnOk};
+ghost use Rattle.std.specs.Prelude.{◌≡◌, ◌↔◌, ◌⊎◌, ◌+◌, ◌-◌, ◌++◌, ◌<◌, ◌≤◌, [], Some, Contains, length, min, take};
+ghost use Rattle.std.specs.Prelude.{IfOk, IsErr, OnErr, OnOk};
 ghost use Rattle.std.specs.Io.KnownBytes.{WriteAppends};
 ghost use Rattle.qsr_outside.specs.Counts.{Rose};
 ghost use Rattle.qsr_outside.specs.InMemory.{after_call, after_failed_call, no_calls};

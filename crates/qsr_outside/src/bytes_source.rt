@@ -1,4 +1,5 @@
-ghost use Rattle.std.specs.Prelude.{◌≡◌, ◌↔◌, ◌++◌, ◌<◌, ◌≤◌, [], None, Some, Contains, length, min, take, drop, IfOk, IsErr, OnErr};
+ghost use Rattle.std.specs.Prelude.{◌≡◌, ◌↔◌, ◌++◌, ◌<◌, ◌≤◌, [], None, Some, Contains, length, min, take, drop, IfOk};
+ghost use Rattle.std.specs.Prelude.{IsErr, OnErr};
 ghost use Rattle.std.specs.Io.KnownBytes.{Consumes};
 ghost use Rattle.qsr_outside.specs.Counts.{count_after, Rose, RoseBy};
 ghost use Rattle.qsr_outside.specs.InMemory.{after_call, after_failed_call, no_calls};
@@ -9,7 +10,7 @@ use crate::reading::Source;
 use std::alloc::Global;
 use std::marker::Model;
 
-/// A source over bytes in memory, that gives at most `piece` bytes in one read and fails where it
+/// A source over bytes in memory, that returns at most `piece` bytes in one read and fails where it
 /// is told to.
 #[derive(Drop)]
 pub struct BytesSource {

@@ -1,4 +1,5 @@
-ghost use Rattle.std.specs.Prelude.{◌≡◌, ◌↔◌, ◌⊎◌, ◌++◌, ◌<◌, ◌≤◌, [], None, Some, Contains, length, min, take, drop, position, slice_get, unwrap_or, IfOk, IfNone, IfSome, IsErr, OnErr, OnOk};
+ghost use Rattle.std.specs.Prelude.{◌≡◌, ◌↔◌, ◌⊎◌, ◌++◌, ◌<◌, ◌≤◌, [], None, Some, Contains, length, min, take, drop};
+ghost use Rattle.std.specs.Prelude.{position, slice_get, unwrap_or, IfOk, IfNone, IfSome, IsErr, OnErr, OnOk};
 ghost use Rattle.std.specs.FinMap as map;
 ghost use Rattle.std.specs.Io.KnownBytes.{Consumes};
 ghost use Rattle.qsr_outside.specs.Counts.{count_after, Rose, RoseBy};
@@ -27,7 +28,7 @@ struct Opened {
 }
 
 /// A shelf in memory, that fails where it is told to or where an absent name is opened. Its opens are
-/// counted with its reads. While no document is open, a read gives no byte.
+/// counted with its reads. While no document is open, a read returns no byte.
 #[derive(Drop)]
 pub struct MapShelf {
     documents: Vec<Document>,

@@ -1,4 +1,5 @@
-ghost use Rattle.std.specs.Prelude.{◌≡◌, ◌↔◌, ◌⊎◌, ◌+◌, ◌^◌, ◌<◌, ◌≤◌, ℕ, List, [], Option, length, take, vec_len, IfSome, IsSomeAnd, IfOk, OnErr, OnOk};
+ghost use Rattle.std.specs.Prelude.{◌≡◌, ◌↔◌, ◌⊎◌, ◌+◌, ◌^◌, ◌<◌, ◌≤◌, ℕ, List, [], Option, length, take, vec_len};
+ghost use Rattle.std.specs.Prelude.{IfSome, IsSomeAnd, IfOk, OnErr, OnOk};
 ghost use Rattle.std.specs.Io.KnownBytes.{Consumes, IsAtEnd, Keeps};
 ghost use Rattle.qsr_outside.specs.Counts.{Rose, RoseAbove, RoseBy};
 ghost use Rattle.qsr_outside.specs.Documents.{Documents};
@@ -27,7 +28,7 @@ pub trait Source {
     // How many calls failed so far.
     ghost faults: { Self → ℕ };
 
-    /// Gives the next bytes, at the front of `buf`, and returns how many. `Ok(0)` is the end of input.
+    /// Writes the next bytes to the front of `buf`, and returns how many. `Ok(0)` is the end of input.
     ///
     /// # Errors
     ///
