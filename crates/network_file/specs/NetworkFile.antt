@@ -69,7 +69,7 @@ names_here n lines (Some found) = do
   names ← names_once found.0.number said
   Ok (names, found.1)
 
--- the names of the nodes, where the next line gives names, and the lines after
+-- the names of the nodes, where the next line has names, and the lines after
 abbrev pub names_line : ℕ → List TokenLine → Result (List (List ℕ) × List TokenLine) FileFault
 names_line n lines = names_here n lines (line_of (codes "names") lines)
 

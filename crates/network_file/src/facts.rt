@@ -1,7 +1,7 @@
 //! The facts of the lines of a network file.
 //!
-//! Of a line the form is tested first, then the nodes from left to right, that they differ, and the base relations. The fact
-//! then narrows the network at once: no list of facts is made.
+//! Of a line the form is tested first, then the nodes from left to right, that they differ, and the base relations. The
+//! fact then narrows the network at once: no list of facts is made.
 ghost use Rattle.std.specs.Prelude.{◌≡◌, ◌-◌, ◌^◌, ◌<◌, [], length, IfOk, IfErr, OnOk, MatchBool, List, Ok, Err, false};
 ghost use Rattle.calculus_table.specs.Rel.{IsWithin};
 ghost use Rattle.network_words.specs.Edge.{IsProperPair};
@@ -10,7 +10,8 @@ ghost use Rattle.network_words.specs.declared.fact.Fact.{Fact};
 ghost use Rattle.qsr_lex.specs.LineTokens.{is_end_line};
 ghost use Rattle.network_file.specs.LineForms.{is_named};
 ghost use Rattle.network_file.specs.FormsRead.{node_read};
-ghost use Rattle.network_file.specs.NetworkFile.{FailsWith, node_of, fact_line, facts_at_end, fact_lines, ReadsLine, ReadsFacts, MeetsEnd};
+ghost use Rattle.network_file.specs.NetworkFile.{FailsWith, node_of, fact_line, facts_at_end, fact_lines, ReadsLine};
+ghost use Rattle.network_file.specs.NetworkFile.{ReadsFacts, MeetsEnd};
 
 use crate::fault::{FileFault, end_fault};
 use crate::forms::{NodeToken, fact_form};

@@ -1,8 +1,9 @@
 //! The forms of the lines of a network file: `nodes N`, `names ( A B .. )` and `I J ( R .. )`.
 //!
-//! A line's form is tested before anything else of it. A node's token is read once, as a number or a name; whether there is
-//! such a node is asked where the facts are read.
-ghost use Rattle.std.specs.Prelude.{◌≡◌, ◌-◌, ◌^◌, map, length, All, IfOk, IfSome, IsErrOf, MatchOption, Some, None, true};
+//! A line's form is tested before anything else of it. A node's token is read once, as a number or a name; whether
+//! there is such a node is asked where the facts are read.
+ghost use Rattle.std.specs.Prelude.{◌≡◌, ◌-◌, ◌^◌, map, length, All, IfOk, IfSome, IsErrOf, MatchOption, Some, None};
+ghost use Rattle.std.specs.Prelude.{true};
 ghost use Rattle.calculus_table.specs.Rel.{IsWithin};
 ghost use Rattle.qsr_lex.specs.Names.{is_name};
 ghost use Rattle.network_file.specs.LineForms.{nodes_form, names_form, node_token, node_at, fact_form};

@@ -1,12 +1,14 @@
 //! Reading network files.
 //!
-//! The lines are read in order, each once, and the first faulty one decides. The network has, from the first line on, the
-//! full set on each pair; each fact intersects the set of its pair, so that in the end it is the network of the facts
-//! whatever their order. Besides the network and its names nothing is kept: reading takes time linear in the text.
+//! The lines are read in order, each once, and the first faulty one decides. The network has, from the first line on,
+//! the full set on each pair; each fact intersects the set of its pair, so that in the end it is the network of the
+//! facts whatever their order. Besides the network and its names nothing is kept: reading takes time linear in the
+//! text.
 ghost use Rattle.std.specs.Prelude.{◌≡◌, ◌≤◌, [], length, IfOk, IfErr, OnOk, Ok};
 ghost use Rattle.qsr_lex.specs.declared.TheConstants.{MAX_TEXT};
 ghost use Rattle.network_words.specs.Network.{IsNetwork};
-ghost use Rattle.network_file.specs.NetworkFile.{FailsWith, nodes_line, names_line, read_network, IsNetworkOfContents, IsFileOf};
+ghost use Rattle.network_file.specs.NetworkFile.{FailsWith, nodes_line, names_line, read_network, IsNetworkOfContents};
+ghost use Rattle.network_file.specs.NetworkFile.{IsFileOf};
 
 use crate::facts::read_facts;
 use crate::fault::{FileFault, end_fault, names_fault};
@@ -59,7 +61,7 @@ fn read_nodes(alloc: Global, lines: &mut FileLines<'_>, c: &Calculus) -> Result<
     }
 }
 
-/// Names the nodes, where the next line gives names.
+/// Names the nodes, where the next line has names.
 fn read_names(alloc: Global, lines: &mut FileLines<'_>, net: &mut Net) -> Result<(), FileFault>
     requires { net.old.names ≡ [] }
     ensures ok { OnOk result

@@ -1,4 +1,5 @@
 //! Network files over the calculus of points on a line.
+use super::FileFault::{NameTwice, NoEnd, NoNode, Nodes, SelfEdge, Syntax, Unknown};
 use super::*;
 use calculus_builtin::point;
 use calculus_table::Calculus;
@@ -100,21 +101,18 @@ fn are_refused(
 #[test]
 fn a_faulty_first_line_is_refused(rt: HostRuntime) -> Result<(), Fail> {
     let rows: [(&[u8], FileFault); 6] = [
-        (b".\n", FileFault::Syntax { line: 1 }),
-        (b"nodes\n.\n", FileFault::Syntax { line: 1 }),
-        (b"nodes 2 2\n.\n", FileFault::Syntax { line: 1 }),
-        (
-            b"nodes 1234567890123456789\n.\n",
-            FileFault::Syntax { line: 1 },
-        ),
-        (b"nodes 0\n.\n", FileFault::Nodes { line: 1 }),
-        (b"nodes 123456789012345678\n", FileFault::Nodes { line: 1 }),
+        (b".\n", Syntax { line: 1 }),
+        (b"nodes\n.\n", Syntax { line: 1 }),
+        (b"nodes 2 2\n.\n", Syntax { line: 1 }),
+        (b"nodes 1234567890123456789\n.\n", Syntax { line: 1 }),
+        (b"nodes 0\n.\n", Nodes { line: 1 }),
+        (b"nodes 123456789012345678\n", Nodes { line: 1 }),
     ];
     let alloc = rt.alloc();
     are_refused(&rt, alloc, &rows)?;
     let limits: [(&[u8], FileFault); 2] = [
-        (b"\nnodes 256\n", FileFault::NoEnd { lines: 2 }),
-        (b"\nnodes 257\n", FileFault::Nodes { line: 2 }),
+        (b"\nnodes 256\n", NoEnd { lines: 2 }),
+        (b"\nnodes 257\n", Nodes { line: 2 }),
     ];
     are_refused(&rt, alloc, &limits)?;
     Ok(())
@@ -123,23 +121,14 @@ fn a_faulty_first_line_is_refused(rt: HostRuntime) -> Result<(), Fail> {
 #[test]
 fn a_faulty_line_of_names_is_refused(rt: HostRuntime) -> Result<(), Fail> {
     let rows: [(&[u8], FileFault); 6] = [
-        (b"nodes 2\nnames ( a )\n.\n", FileFault::Syntax { line: 2 }),
-        (
-            b"nodes 2\nnames ( a b c )\n.\n",
-            FileFault::Syntax { line: 2 },
-        ),
-        (
-            b"nodes 2\nnames ( a 1 )\n.\n",
-            FileFault::Syntax { line: 2 },
-        ),
-        (b"nodes 2\nnames ( a b ) .\n", FileFault::Syntax { line: 2 }),
-        (
-            b"nodes 2\nnames ( a a )\n.\n",
-            FileFault::NameTwice { line: 2 },
-        ),
+        (b"nodes 2\nnames ( a )\n.\n", Syntax { line: 2 }),
+        (b"nodes 2\nnames ( a b c )\n.\n", Syntax { line: 2 }),
+        (b"nodes 2\nnames ( a 1 )\n.\n", Syntax { line: 2 }),
+        (b"nodes 2\nnames ( a b ) .\n", Syntax { line: 2 }),
+        (b"nodes 2\nnames ( a a )\n.\n", NameTwice { line: 2 }),
         (
             b"nodes 2\n0 1 ( < )\nnames ( a b )\n.\n",
-            FileFault::Syntax { line: 3 },
+            Syntax { line: 3 },
         ),
     ];
     are_refused(&rt, rt.alloc(), &rows)?;
@@ -149,29 +138,26 @@ fn a_faulty_line_of_names_is_refused(rt: HostRuntime) -> Result<(), Fail> {
 #[test]
 fn a_faulty_fact_is_refused(rt: HostRuntime) -> Result<(), Fail> {
     let rows: [(&[u8], FileFault); 12] = [
-        (b"nodes 2\na 1 ( < )\n.\n", FileFault::Syntax { line: 2 }),
-        (b"nodes 2\n0 ( < )\n.\n", FileFault::Syntax { line: 2 }),
-        (b"nodes 2\n0 1 <\n.\n", FileFault::Syntax { line: 2 }),
-        (
-            b"nodes 2\n0 1 ( < ) ( = )\n.\n",
-            FileFault::Syntax { line: 2 },
-        ),
-        (b"nodes 2\n5 5 ( \"x )\n.\n", FileFault::Syntax { line: 2 }),
-        (b"nodes 2\n0 2 ( x )\n.\n", FileFault::NoNode { line: 2 }),
-        (b"nodes 2\n2 2 ( < )\n.\n", FileFault::NoNode { line: 2 }),
-        (b"nodes 2\n1 1 ( x )\n.\n", FileFault::SelfEdge { line: 2 }),
-        (b"nodes 2\n0 1 ( < x )\n.\n", FileFault::Unknown { line: 2 }),
+        (b"nodes 2\na 1 ( < )\n.\n", Syntax { line: 2 }),
+        (b"nodes 2\n0 ( < )\n.\n", Syntax { line: 2 }),
+        (b"nodes 2\n0 1 <\n.\n", Syntax { line: 2 }),
+        (b"nodes 2\n0 1 ( < ) ( = )\n.\n", Syntax { line: 2 }),
+        (b"nodes 2\n5 5 ( \"x )\n.\n", Syntax { line: 2 }),
+        (b"nodes 2\n0 2 ( x )\n.\n", NoNode { line: 2 }),
+        (b"nodes 2\n2 2 ( < )\n.\n", NoNode { line: 2 }),
+        (b"nodes 2\n1 1 ( x )\n.\n", SelfEdge { line: 2 }),
+        (b"nodes 2\n0 1 ( < x )\n.\n", Unknown { line: 2 }),
         (
             b"nodes 2\nnames ( a b )\na c ( x )\n.\n",
-            FileFault::Unknown { line: 3 },
+            Unknown { line: 3 },
         ),
         (
             b"nodes 2\nnames ( a b )\nc 2 ( < )\n.\n",
-            FileFault::Unknown { line: 3 },
+            Unknown { line: 3 },
         ),
         (
             b"nodes 2\nnames ( a b )\n2 c ( < )\n.\n",
-            FileFault::NoNode { line: 3 },
+            NoNode { line: 3 },
         ),
     ];
     are_refused(&rt, rt.alloc(), &rows)?;
@@ -181,21 +167,18 @@ fn a_faulty_fact_is_refused(rt: HostRuntime) -> Result<(), Fail> {
 #[test]
 fn a_faulty_end_or_a_hostile_byte_is_refused(rt: HostRuntime) -> Result<(), Fail> {
     let rows: [(&[u8], FileFault); 9] = [
-        (b"", FileFault::NoEnd { lines: 0 }),
-        (b"\n#\n", FileFault::NoEnd { lines: 2 }),
-        (b"nodes 2\n0 1 ( < )", FileFault::NoEnd { lines: 2 }),
-        (b"nodes 2\nnames ( a b )\n\n", FileFault::NoEnd { lines: 3 }),
-        (b"nodes 2\n. x\n", FileFault::Syntax { line: 2 }),
-        (b"nodes 2\n.\n.\n", FileFault::Syntax { line: 3 }),
-        (b"nodes 2\n.\n\x80\n", FileFault::Syntax { line: 3 }),
+        (b"", NoEnd { lines: 0 }),
+        (b"\n#\n", NoEnd { lines: 2 }),
+        (b"nodes 2\n0 1 ( < )", NoEnd { lines: 2 }),
+        (b"nodes 2\nnames ( a b )\n\n", NoEnd { lines: 3 }),
+        (b"nodes 2\n. x\n", Syntax { line: 2 }),
+        (b"nodes 2\n.\n.\n", Syntax { line: 3 }),
+        (b"nodes 2\n.\n\x80\n", Syntax { line: 3 }),
         (
             b"nodes 2\n0 1 ( < ) \x80\n0 0 ( < )\n.\n",
-            FileFault::Syntax { line: 2 },
+            Syntax { line: 2 },
         ),
-        (
-            b"nodes 2\n0 0 ( < )\n\x80\n",
-            FileFault::SelfEdge { line: 2 },
-        ),
+        (b"nodes 2\n0 0 ( < )\n\x80\n", SelfEdge { line: 2 }),
     ];
     are_refused(&rt, rt.alloc(), &rows)?;
     Ok(())

@@ -1,7 +1,7 @@
 //! The canonical text of a network.
 //!
-//! Everything is appended to one text. The numbers of the nodes are written once, each with the space after it, and the line
-//! of a set is made once and copied wherever it recurs, so the line of an edge costs three copies.
+//! Everything is appended to one text. The numbers of the nodes are written once, each with the space after it, and the
+//! line of a set is made once and copied wherever it recurs, so the line of an edge costs three copies.
 ghost use Rattle.std.specs.Prelude.{◌≡◌, ◌≢◌, ◌<◌, [], ◌++◌, length, map, slice_index_or, codes, OnOk, IfOk};
 ghost use Rattle.std.specs.Fmt.{decimal};
 ghost use Rattle.std.specs.String.{string_bytes};

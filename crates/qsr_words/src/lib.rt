@@ -1,9 +1,9 @@
 //! What the words of the command line ask for.
 //!
-//! The first word names the command, and the words of each command are read with `clap`, by one simple command of its own: positional
-//! words in their order, and options anywhere after the command's name, each at most once, as `--name VALUE` or `--name=VALUE`. Which
-//! words such a command takes, and with which values, `clap` states as a function of the words; `asked_by` is defined by that
-//! function. Words that ask for nothing have the usage line.
+//! The first word names the command, and the words of each command are read with `clap`, by one simple command of its
+//! own: positional words in their order, and options anywhere after the command's name, each at most once, as `--name
+//! VALUE` or `--name=VALUE`. Which words such a command takes, and with which values, `clap` states as a function of
+//! the words; `asked_by` is defined by that function. Words that ask for nothing have the usage line.
 #![tactic(auto)]
 
 mod close;
