@@ -12,7 +12,7 @@ use Rattle.narrow_core.specs.Machine.{CoreState, IsProperFact}
 
 -- ---- what each event changes
 
--- the set of the fact's edge is intersected with the fact's set as the edge stores it; the actor has the fact and sees the edge
+-- the fact's edge is narrowed to the fact's set as the edge stores it; the actor has the fact and sees the edge
 pub record Asserts (m : Algebra) (k : ℕ) (fact : Fact) (old new : CoreState) : Type 0 where
   pub actor : ActorState
   pub is_there : slice_get old.actors k ≡ Some actor
