@@ -1,8 +1,9 @@
 //! What the lines of a table file have given so far.
 //!
-//! Each converse and each composition has a place, which is empty until a line gives it. So a second line for one place is
-//! seen at once, and what no line gave is found by going over the places in order.
-ghost use Rattle.std.specs.Prelude.{◌≡◌, ◌+◌, ◌*◌, ◌-◌, ◌^◌, ◌<◌, ◌≤◌, map, length, replicate, None, MatchOption, MatchResult, IfSome, IfOk, IfErr, Ok, Err};
+//! Each converse and each composition has a place, which is empty until a line gives it. So a second line for one place
+//! is seen at once, and what no line gave is found by going over the places in order.
+ghost use Rattle.std.specs.Prelude.{◌≡◌, ◌+◌, ◌*◌, ◌-◌, ◌^◌, ◌<◌, ◌≤◌, map, length, replicate, None, MatchOption};
+ghost use Rattle.std.specs.Prelude.{MatchResult, IfSome, IfOk, IfErr, Ok, Err};
 ghost use Rattle.calculus_load.specs.Given.{first_missing, value_of};
 ghost use Rattle.calculus_load.specs.TableFile.{fault_of};
 
@@ -28,9 +29,19 @@ impl Model for Draft {
 
     ghost Value = { Given };
 
-    ghost view = { λ d. record { names = map string_bytes d.names.items; identity = d.identity; converses = d.converses.items; entries = d.entries.items } };
+    ghost view = { λ d. record {
+      names = map string_bytes d.names.items;
+      identity = d.identity;
+      converses = d.converses.items;
+      entries = d.entries.items;
+    } };
 
-    ghost invariant = { λ d. HasShape (record { names = map string_bytes d.names.items; identity = d.identity; converses = d.converses.items; entries = d.entries.items }) };
+    ghost invariant = { λ d. HasShape (record {
+      names = map string_bytes d.names.items;
+      identity = d.identity;
+      converses = d.converses.items;
+      entries = d.entries.items;
+    }) };
 }
 
 impl Draft {

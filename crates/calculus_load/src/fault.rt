@@ -8,10 +8,12 @@ use line_files::TextEnd;
 use qsr_lex::NamesFault;
 use thiserror::Error;
 
-/// Why a text is no table of a calculus. The first faulty line decides; then what is missing; then the table's own checks.
+/// Why a text is no table of a calculus. The first faulty line decides; then what is missing; then the table's own
+/// checks.
 #[derive(Clone, Copy, Debug, PartialEq, Eq, Error)]
 pub enum LoadFault {
-    /// The line isn't of the form that is wanted there, or the text ends before the end line, at its number of lines plus one.
+    /// The line isn't of the form that is wanted there, or the text ends before the end line, at its number of lines
+    /// plus one.
     #[error("line {line} isn't of the form of a table file")]
     Syntax { line: u32 },
     /// The line has a name that is none of the names of the base relations.

@@ -1,10 +1,12 @@
 //! The forms of the lines of a table file: `names ( N1 N2 .. Nn )`, `identity N`, `A :: B` and `A : B :: ( C D .. )`.
 //!
 //! A line's form is tested before anything else of it: a name that no base relation has is carried on as none.
-ghost use Rattle.std.specs.Prelude.{◌≡◌, ◌<◌, ◌≤◌, map, length, All, IfOk, IfSome, IsErrOf, MatchOption, Some, None, true};
+ghost use Rattle.std.specs.Prelude.{◌≡◌, ◌<◌, ◌≤◌, map, length, All, IfOk, IfSome, IsErrOf, MatchOption, Some, None};
+ghost use Rattle.std.specs.Prelude.{true};
 ghost use Rattle.qsr_lex.specs.Names.{is_name};
 ghost use Rattle.calculus_table.specs.declared.TheConstants.{MAX_BASES};
-ghost use Rattle.calculus_load.specs.Statements.{names_line, identity_line, after_colons, after_colon, statement_line, IsBoundedBy};
+ghost use Rattle.calculus_load.specs.Statements.{names_line, identity_line, after_colons, after_colon, statement_line};
+ghost use Rattle.calculus_load.specs.Statements.{IsBoundedBy};
 
 use crate::statement::Statement;
 use named_sets::{BaseNames, read_set};

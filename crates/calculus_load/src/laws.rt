@@ -1,8 +1,8 @@
 //! Laws of table files.
 ghost use Rattle.calculus_load.specs.Laws.{PrintedIsRead, CalculusHasNoFault, LoadIsOne, LoadedHasNoFault};
 
-/// The canonical table file of a calculus whose names may stand in a file is read as that calculus, which has no fault but
-/// out of memory.
+/// The canonical table file of a calculus whose names may stand in a file is read as that calculus, which has no fault
+/// but out of memory.
 pub fn printed_table_is_read()
     ensures same { PrintedIsRead }
     ensures no_fault { CalculusHasNoFault }

@@ -1,8 +1,8 @@
 //! Reading a table file.
 //!
-//! The lines are read in order, each once, and the first faulty one decides. What each says is put into a draft, where a
-//! converse or a composition that was given before is a fault. After the end line the draft is looked through for what was
-//! not given, and last the four laws are tested.
+//! The lines are read in order, each once, and the first faulty one decides. What each says is put into a draft, where
+//! a converse or a composition that was given before is a fault. After the end line the draft is looked through for
+//! what was not given, and last the four laws are tested.
 ghost use Rattle.std.specs.Prelude.{◌≡◌, ◌<◌, ◌≤◌, map, length, All, IfOk, OnOk, IfErr, Ok, Err, true, false};
 ghost use Rattle.std.specs.String.{string_bytes};
 ghost use Rattle.qsr_lex.specs.Names.{is_name};
@@ -10,7 +10,9 @@ ghost use Rattle.qsr_lex.specs.LineTokens.{is_end_line};
 ghost use Rattle.qsr_lex.specs.declared.TheConstants.{MAX_TEXT};
 ghost use Rattle.calculus_table.specs.Calculus.{AreDistinct, IsNamedCalculus};
 ghost use Rattle.calculus_table.specs.declared.TheConstants.{MAX_BASES};
-ghost use Rattle.calculus_load.specs.TableFile.{FailsWith, names_of_line, identity_of_line, statement_of_line, given_at_end, statements, from_identity, from_names, table_of, IsLoadFaultOf, IsLineTaken};
+ghost use Rattle.calculus_load.specs.TableFile.{FailsWith, names_of_line, identity_of_line, statement_of_line};
+ghost use Rattle.calculus_load.specs.TableFile.{given_at_end, statements, from_identity, from_names, table_of};
+ghost use Rattle.calculus_load.specs.TableFile.{IsLoadFaultOf, IsLineTaken};
 
 use crate::draft::Draft;
 use crate::fault::{LoadFault, end_fault, names_fault};

@@ -1,5 +1,6 @@
 ghost use Rattle.std.specs.Prelude.{◌<◌};
 
+use super::LoadFault::{Missing, Syntax, TooMany, Twice, Unknown};
 use super::{LoadFault, read, text};
 use calculus_builtin::{allen, point, rcc8};
 use calculus_table::{Calculus, Compose, Rel, TableFault};
@@ -10,7 +11,8 @@ use std::test::Fail;
 
 /// The table file of Ramsey's calculus of two colours.
 const RAMSEY: &str =
-    "names ( id a b )|identity id|id :: id|a :: a|b :: b|id : id :: ( id )|id : a :: ( a )|id : b :: ( b )|a : id :: ( a )|a : a :: ( id b )|a : b :: ( a b )|b : id :: ( b )|b : a :: ( a b )|b : b :: ( id a )|.|";
+    "names ( id a b )|identity id|id :: id|a :: a|b :: b|id : id :: ( id )|id : a :: ( a )|id : b :: ( b )|\
+     a : id :: ( a )|a : a :: ( id b )|a : b :: ( a b )|b : id :: ( b )|b : a :: ( a b )|b : b :: ( id a )|.|";
 
 /// What is read of a text in which `|` stands for a line's end.
 fn read_rows(alloc: Global, rows: &[u8]) -> Result<Calculus, LoadFault> {
@@ -48,21 +50,18 @@ fn a_line_of_another_form_is_refused(rt: HostRuntime) {
     let rows: [(&[u8], LoadFault); 5] = [
         (
             b"names ( e )|identity e|e :: e|f :: e :|.|",
-            LoadFault::Syntax { line: 4 },
+            Syntax { line: 4 },
         ),
         (
             b"names ( e )|identity e|e :: e|e : e :: ( e )|",
-            LoadFault::Syntax { line: 5 },
+            Syntax { line: 5 },
         ),
         (
             b"names ( e )|identity e|e :: e|e : e :: ( e )",
-            LoadFault::Syntax { line: 5 },
+            Syntax { line: 5 },
         ),
-        (
-            b"names ( e )||identity e|# none||",
-            LoadFault::Syntax { line: 6 },
-        ),
-        (b"names ( )|.|", LoadFault::Syntax { line: 1 }),
+        (b"names ( e )||identity e|# none||", Syntax { line: 6 }),
+        (b"names ( )|.|", Syntax { line: 1 }),
     ];
     are_refused(&rt, rt.alloc(), &rows);
 }
@@ -72,21 +71,21 @@ fn an_unknown_name_or_a_repeated_line_is_refused(rt: HostRuntime) {
     let rows: [(&[u8], LoadFault); 5] = [
         (
             b"names ( e )|identity e|e :: e|e :: e|.|",
-            LoadFault::Twice { line: 4 },
+            Twice { line: 4 },
         ),
         (
             b"names ( e )|identity e|e : e :: ( )|e : e :: ( e )|.|",
-            LoadFault::Twice { line: 4 },
+            Twice { line: 4 },
         ),
         (
             b"names ( e )|identity e|e : f :: ( e )|.|",
-            LoadFault::Unknown { line: 3 },
+            Unknown { line: 3 },
         ),
         (
             b"names ( e )|identity e|e : e :: ( f )|e :: e|e :: e|",
-            LoadFault::Unknown { line: 3 },
+            Unknown { line: 3 },
         ),
-        (b"names ( e )|identity f|.|", LoadFault::Unknown { line: 2 }),
+        (b"names ( e )|identity f|.|", Unknown { line: 2 }),
     ];
     are_refused(&rt, rt.alloc(), &rows);
 }
@@ -96,15 +95,15 @@ fn a_table_that_is_no_calculus_is_refused(rt: HostRuntime) {
     let rows: [(&[u8], LoadFault); 6] = [
         (
             b"names ( e )|identity e|e :: e|.|",
-            LoadFault::Missing { r: 0, s: Some(0) },
+            Missing { r: 0, s: Some(0) },
         ),
         (
             b"names ( e )|identity e|e : e :: ( e )|.|",
-            LoadFault::Missing { r: 0, s: None },
+            Missing { r: 0, s: None },
         ),
         (
             b"names ( e a )|identity e|a :: a|e :: e|a : e :: ( a )|e : e :: ( e )|.|",
-            LoadFault::Missing { r: 0, s: Some(1) },
+            Missing { r: 0, s: Some(1) },
         ),
         (
             b"names ( e e )|.|",
@@ -115,7 +114,8 @@ fn a_table_that_is_no_calculus_is_refused(rt: HostRuntime) {
             LoadFault::Table(TableFault::NotInvolution { r: 1 }),
         ),
         (
-            b"names ( e a )|identity e|e :: e|a :: a|e : e :: ( e )|e : a :: ( e a )|a : e :: ( a )|a : a :: ( e a )|.|",
+            b"names ( e a )|identity e|e :: e|a :: a|\
+              e : e :: ( e )|e : a :: ( e a )|a : e :: ( a )|a : a :: ( e a )|.|",
             LoadFault::Table(TableFault::IdentityLaw { r: 1 }),
         ),
     ];
@@ -125,35 +125,17 @@ fn a_table_that_is_no_calculus_is_refused(rt: HostRuntime) {
 #[test]
 fn a_line_with_a_hostile_byte_is_refused(rt: HostRuntime) {
     let rows: [(&[u8], LoadFault); 8] = [
-        (
-            b"names ( e )|identity \x00e|.|",
-            LoadFault::Syntax { line: 2 },
-        ),
-        (
-            b"names ( \xe9 )|identity e|.|",
-            LoadFault::Syntax { line: 1 },
-        ),
-        (
-            b"names ( e )|identity f|\x00|.|",
-            LoadFault::Unknown { line: 2 },
-        ),
+        (b"names ( e )|identity \x00e|.|", Syntax { line: 2 }),
+        (b"names ( \xe9 )|identity e|.|", Syntax { line: 1 }),
+        (b"names ( e )|identity f|\x00|.|", Unknown { line: 2 }),
         (
             b"names ( e )|identity e|e :: e|e : e :: ( e )|.|\xff|",
-            LoadFault::Syntax { line: 6 },
+            Syntax { line: 6 },
         ),
-        (b"names ( e )|identity e\r", LoadFault::Syntax { line: 2 }),
-        (
-            b"names ( e ) \r identity e|.|",
-            LoadFault::Syntax { line: 1 },
-        ),
-        (
-            b"names ( \"e )|identity e|.|",
-            LoadFault::Syntax { line: 1 },
-        ),
-        (
-            b"names ( e\\ )|identity e|.|",
-            LoadFault::Syntax { line: 1 },
-        ),
+        (b"names ( e )|identity e\r", Syntax { line: 2 }),
+        (b"names ( e ) \r identity e|.|", Syntax { line: 1 }),
+        (b"names ( \"e )|identity e|.|", Syntax { line: 1 }),
+        (b"names ( e\\ )|identity e|.|", Syntax { line: 1 }),
     ];
     are_refused(&rt, rt.alloc(), &rows);
 }
@@ -161,20 +143,17 @@ fn a_line_with_a_hostile_byte_is_refused(rt: HostRuntime) {
 #[test]
 fn a_text_that_lacks_lines_or_has_too_many_is_refused(rt: HostRuntime) {
     let rows: [(&[u8], LoadFault); 5] = [
-        (b"", LoadFault::Syntax { line: 1 }),
-        (b"# none|  # none", LoadFault::Syntax { line: 3 }),
+        (b"", Syntax { line: 1 }),
+        (b"# none|  # none", Syntax { line: 3 }),
         (
             b"names ( e )|identity e|e :: e|e : e :: ( e )|.|.|",
-            LoadFault::Syntax { line: 6 },
+            Syntax { line: 6 },
         ),
         (
             b"names ( e )|identity e|e :: e|e : e :: ( e )|. e|",
-            LoadFault::Syntax { line: 5 },
+            Syntax { line: 5 },
         ),
-        (
-            b"names ( e , f )|identity e|.|",
-            LoadFault::Syntax { line: 1 },
-        ),
+        (b"names ( e , f )|identity e|.|", Syntax { line: 1 }),
     ];
     are_refused(&rt, rt.alloc(), &rows);
 }
@@ -204,10 +183,7 @@ fn long_name(alloc: Global, length: u32) -> Result<String, AllocError> {
 #[test]
 fn names_have_their_limits(rt: HostRuntime) -> Result<(), Fail> {
     let alloc = rt.alloc();
-    for (count, fault) in [
-        (64, LoadFault::Missing { r: 0, s: None }),
-        (65, LoadFault::TooMany { line: 1 }),
-    ] {
+    for (count, fault) in [(64, Missing { r: 0, s: None }), (65, TooMany { line: 1 })] {
         let text = names_line(alloc, count)?;
         assert_eq!(rt;
             read_all(alloc, text.as_bytes()).err(),
@@ -215,10 +191,7 @@ fn names_have_their_limits(rt: HostRuntime) -> Result<(), Fail> {
             "{count} names"
         );
     }
-    for (length, fault) in [
-        (64, LoadFault::Unknown { line: 2 }),
-        (65, LoadFault::Syntax { line: 1 }),
-    ] {
+    for (length, fault) in [(64, Unknown { line: 2 }), (65, Syntax { line: 1 })] {
         let text = long_name(alloc, length)?;
         assert_eq!(rt;
             read_all(alloc, text.as_bytes()).err(),
@@ -235,9 +208,12 @@ fn a_table_is_written_in_its_canonical_form(rt: HostRuntime) -> Result<(), Fail>
     let expected = RAMSEY.replace(alloc, "|", "\n")?;
     assert_eq!(rt; canonical(alloc, RAMSEY.as_bytes())?, expected);
     let loose: &[u8] =
-        b"# \x00 \xff|names(lt eq gt)\r||identity\teq|eq : eq::(eq)|lt::gt|gt::lt|eq::eq|lt:lt::(lt lt)|lt:eq::(lt)|lt:gt::(gt eq lt)|eq:lt::(lt)|eq:gt::(gt)|gt:lt::(lt eq gt)|gt:eq::(gt)|gt:gt::(gt)|. # the end||#";
+        b"# \x00 \xff|names(lt eq gt)\r||identity\teq|eq : eq::(eq)|lt::gt|gt::lt|eq::eq|lt:lt::(lt lt)|lt:eq::(lt)|\
+          lt:gt::(gt eq lt)|eq:lt::(lt)|eq:gt::(gt)|gt:lt::(lt eq gt)|gt:eq::(gt)|gt:gt::(gt)|. # the end||#";
     let point =
-        "names ( lt eq gt )|identity eq|lt :: gt|eq :: eq|gt :: lt|lt : lt :: ( lt )|lt : eq :: ( lt )|lt : gt :: ( lt eq gt )|eq : lt :: ( lt )|eq : eq :: ( eq )|eq : gt :: ( gt )|gt : lt :: ( lt eq gt )|gt : eq :: ( gt )|gt : gt :: ( gt )|.|";
+        "names ( lt eq gt )|identity eq|lt :: gt|eq :: eq|gt :: lt|lt : lt :: ( lt )|lt : eq :: ( lt )|\
+         lt : gt :: ( lt eq gt )|eq : lt :: ( lt )|eq : eq :: ( eq )|eq : gt :: ( gt )|gt : lt :: ( lt eq gt )|\
+         gt : eq :: ( gt )|gt : gt :: ( gt )|.|";
     let expected = point.replace(alloc, "|", "\n")?;
     assert_eq!(rt; canonical(alloc, loose)?, expected);
     Ok(())

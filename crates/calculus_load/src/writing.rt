@@ -4,7 +4,8 @@
 ghost use Rattle.std.specs.Prelude.{◌≡◌, ◌<◌, ◌++◌, codes, OnOk, IfOk};
 ghost use Rattle.std.specs.String.{string_bytes};
 ghost use Rattle.qsr_lex.specs.Printed.{text_below};
-ghost use Rattle.calculus_load.specs.TableText.{names_text, identity_text, converse_text, pair_text, entry_text, row_text, table_text};
+ghost use Rattle.calculus_load.specs.TableText.{names_text, identity_text, converse_text, pair_text, entry_text};
+ghost use Rattle.calculus_load.specs.TableText.{row_text, table_text};
 ghost use Rattle.calculus_table.specs.Algebra.{converse_at, entry_at};
 
 use calculus_table::{Calculus, Compose, Memory, Rel, lawful};
