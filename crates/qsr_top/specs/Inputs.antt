@@ -23,7 +23,7 @@ BytesWithin bytes (Ok text) = (length bytes ≤ MAX_TEXT) × (text ≡ bytes)
 BytesWithin bytes (Err is_long) = MAX_TEXT < length bytes
 BytesWithin bytes (Err (refuses number place)) = ⊥
 
--- the bytes of the document of a name, within the limit; a name that no document has gives no value and no cause
+-- the bytes of the document of a name, within the limit; a name that no document has leads to no value and no cause
 abbrev pub DocumentOf : Documents → List ℕ → Result (List ℕ) Cause → Type 0
 DocumentOf documents name result = IsSomeAnd (document documents name) (λ bytes. BytesWithin bytes result)
 

@@ -46,7 +46,7 @@ IsVerdict closed Done = ¬ Contains closed.words 0
 IsVerdict closed No = Contains closed.words 0
 IsVerdict closed status = ⊥
 
--- the text and the status that closing gives a network
+-- the text and the status of closing a network
 pub record ClosesNetwork (c : NamedAlgebra) (net : Network) (text : List ℕ) (status : Status) : Type 0 where
   pub closed : Network
   pub closure_text : IsClosureText c net closed text

@@ -1,8 +1,8 @@
--- Parts of the input: each gives one value, or stops for one cause. A part is the relation to its value or its cause.
+-- Parts of the input: each has one value, or stops for one cause. A part is the relation to its value or its cause.
 use Rattle.std.specs.Prelude.{◌≡◌, ◌⊎◌, Result, Ok, Err}
 use Rattle.qsr_top.specs.Stops.{Cause}
 
--- a part that gives its value to a second one
+-- a part that hands its value to a second one
 pub record Passes {A B : Type 0} (P : Result A Cause → Type 0) (Q : A → Result B Cause → Type 0) (result : Result B Cause) : Type 0 where
   pub value : A
   pub first : P (Ok value)

@@ -1,4 +1,4 @@
--- Why an input gives no value.
+-- Why an input has no value.
 use Rattle.std.specs.Prelude.{ℕ, Option, None, Some, Result, Ok, Err}
 use Rattle.qsr_outside.specs.declared.reading.ReadStop.{ReadStop}
 use Rattle.qsr_outside.specs.declared.reading.ReadStop.TheVariants as read

@@ -1,5 +1,5 @@
-//! The top call. It reads the words, lets the command make its answer whole, and only then writes it: so a fault of an input, or memory
-//! that runs out, writes nothing.
+//! The top call. It reads the words, lets the command make its answer whole, and only then writes it: so a fault of an
+//! input, or memory that runs out, writes nothing.
 ghost use Rattle.std.specs.Prelude.{◌≡◌, ◌⊎◌, ◌+◌, ◌<◌, ◌≤◌, [], None, false, IfOk, IfErr, map};
 ghost use Rattle.std.specs.Io.KnownBytes.{Appends, IsAtEnd};
 ghost use Rattle.std.specs.String.{string_bytes};
@@ -23,8 +23,8 @@ use qsr_outside::{Gate, ReadStop, Shelf, Sink, Source, WriteStop, write_all};
 use qsr_words::{Request, read};
 use std::alloc::Global;
 
-/// Runs the reasoner on its words: reads the documents that they name and the source, as the command asks, and writes the answer to
-/// the sink.
+/// Runs the reasoner on its words: reads the documents that they name and the source, as the command asks, and writes
+/// the answer to the sink.
 pub fn run<F: Shelf, S: Source, W: Sink, G: Gate + Sync>(
     alloc: Global,
     words: &[String],

@@ -1,6 +1,7 @@
-//! Why a command gives no answer, and the number with which each fault of an input is refused.
+//! Why a command returns no answer, and the number with which each fault of an input is refused.
 ghost use Rattle.std.specs.Prelude.{◌≡◌};
-ghost use Rattle.qsr_top.specs.Numbers.{file_refusal, load_refusal, missing_place, place_of_one, place_of_three, table_refusal};
+ghost use Rattle.qsr_top.specs.Numbers.{file_refusal, load_refusal, missing_place, place_of_one, place_of_three};
+ghost use Rattle.qsr_top.specs.Numbers.{table_refusal};
 ghost use Rattle.qsr_top.specs.Stops.{stop_of};
 
 use crate::statuses::Place;
@@ -8,7 +9,7 @@ use calculus_load::LoadFault;
 use calculus_table::TableFault;
 use network_file::FileFault;
 
-/// Why a command gives no answer.
+/// Why a command returns no answer.
 #[derive(Clone, Copy, Debug, PartialEq, Eq)]
 pub(crate) enum Stop {
     /// An input is refused, for the numbered reason at this place.

@@ -100,7 +100,8 @@ fn closing_writes_the_closure(rt: HostRuntime) -> Result<(), Fail> {
         ),
         (
             b"nodes 3\nnames ( a b c )\nc a ( TPP )\n.\n",
-            "nodes 3\nnames ( a b c )\n0 1 ( DC EC PO TPP NTPP TPPi NTPPi EQ )\n0 2 ( TPPi )\n1 2 ( DC EC PO TPP NTPP TPPi NTPPi EQ )\n.\n",
+            "nodes 3\nnames ( a b c )\n0 1 ( DC EC PO TPP NTPP TPPi NTPPi EQ )\n0 2 ( TPPi )\n\
+             1 2 ( DC EC PO TPP NTPP TPPi NTPPi EQ )\n.\n",
             Status::Done,
         ),
         (
@@ -141,7 +142,8 @@ fn every_built_in_calculus_closes_a_network(rt: HostRuntime) -> Result<(), Fail>
 }
 
 const RAMSEY: &[u8] =
-    b"names ( id a b )\nidentity id\nid :: id\na :: a\nb :: b\nid : id :: ( id )\nid : a :: ( a )\nid : b :: ( b )\na : id :: ( a )\na : a :: ( id b )\na : b :: ( a b )\nb : id :: ( b )\nb : a :: ( a b )\nb : b :: ( id a )\n.\n";
+    b"names ( id a b )\nidentity id\nid :: id\na :: a\nb :: b\nid : id :: ( id )\nid : a :: ( a )\nid : b :: ( b )\n\
+      a : id :: ( a )\na : a :: ( id b )\na : b :: ( a b )\nb : id :: ( b )\nb : a :: ( a b )\nb : b :: ( id a )\n.\n";
 
 #[test]
 fn a_table_file_gives_its_calculus(rt: HostRuntime) -> Result<(), Fail> {
