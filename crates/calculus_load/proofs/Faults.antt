@@ -13,7 +13,7 @@ use Rattle.calculus_load.specs.TableFile.{fault_of, FailsWith, IsTableFaultOf, I
 use Rattle.calculus_load.specs.declared.fault.LoadFault.{LoadFault}
 use Rattle.calculus_load.specs.declared.fault.LoadFault.TheVariants.{Syntax, Unknown, Missing, Twice, TooMany, Table, Memory}
 
-table_fault : (c : NamedAlgebra) (f : TableFault) → IsFaultOf c.names c.algebra f → IsLoadFaultOf (Ok c) (fault_of f)
+pub table_fault : (c : NamedAlgebra) (f : TableFault) → IsFaultOf c.names c.algebra f → IsLoadFaultOf (Ok c) (fault_of f)
 table_fault c faults.Memory h = tt
 table_fault c (NameTwice at) h = h
 table_fault c (NotInvolution r) h = h

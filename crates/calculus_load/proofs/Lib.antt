@@ -6,3 +6,4 @@ pub mod Colons
 pub mod PrintedTable
 pub mod NamesAgain
 pub mod ReadAgain
+pub mod Answered

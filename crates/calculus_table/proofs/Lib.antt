@@ -3,6 +3,7 @@ pub mod Members
 pub mod Compositions
 pub mod PlacesOfNames
 pub mod Faults
+pub mod FirstPlaces
 pub mod Computed
 pub mod Unions
 pub mod Without

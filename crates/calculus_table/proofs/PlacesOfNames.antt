@@ -1,7 +1,7 @@
 -- Names as lists of bytes, and the places at which they stand.
 use Rattle.std.proofs.Common.{◌≡◌, ◌≢◌, ℕ, zero, suc, ◌<◌, Bool, true, false, cond, List, [], ◌∷◌, length, map, get_or, slice_get, Option, Some, None, refl, sym, ◌∙◌, ap, arith, String, Global, option_map}
 use Rattle.std.specs.String.{string_bytes}
-use Rattle.std.specs.Prelude.{MatchOption}
+use Rattle.std.specs.Prelude.{MatchOption, IfSome}
 use Rattle.std.specs.Str.{bytes_eq}
 use Rattle.std.proofs.lemmas.Option.{slice_get-map, slice_get_read, slice_get_within, same_Some}
 use Rattle.std.proofs.lemmas.Slice.Eq.{bytes_eq-Decides}
@@ -51,3 +51,13 @@ pub place_of-find : (names : List (List ℕ)) (name : List ℕ) (n : ℕ) (found
     MatchOption found ((r : ℕ) → slice_get names r ≢ Some name) (λ r. (r < n) × (slice_get names r ≡ Some name)) → found ≡ place_of name names
 place_of-find names name n None d h = sym (place_of-none names name h)
 place_of-find names name n (Some r) d h = sym (place_of-found names name r d h.1)
+
+-- a place is below the number of names
+place_below : (b : Bool) (o : Option ℕ) (n : ℕ) → IfSome o (λ r. r < n) → IfSome (cond b (Some 0) (option_map suc o)) (λ r. r < suc n)
+place_below true o n h = omega arith
+place_below false (Some r) n h = omega (arith, h)
+place_below false None n h = tt
+
+pub place_of-below : (names : List (List ℕ)) (name : List ℕ) → IfSome (place_of name names) (λ r. r < length names)
+place_of-below [] name = tt
+place_of-below (x ∷ xs) name = place_below (bytes_eq x name) (place_of name xs) (length xs) (place_of-below xs name)

@@ -1,10 +1,11 @@
--- What follows from the four laws for sets of base relations, once and for every calculus, and that a table has one fault at most.
-use Rattle.std.specs.Prelude.{◌≡◌, ◌≢◌, ℕ, ◌^◌, List, bit_or}
+-- What follows from the four laws for sets of base relations, once and for every calculus, and that a table has one fault at most,
+-- and one where it is no calculus.
+use Rattle.std.specs.Prelude.{◌≡◌, ◌≢◌, ◌⊎◌, ℕ, ◌^◌, List, bit_or}
 use Rattle.calculus_table.specs.Rel.{IsWithin}
 use Rattle.calculus_table.specs.Algebra.{Algebra}
 use Rattle.calculus_table.specs.Composition.{full_of, composition, converse}
 use Rattle.calculus_table.specs.Calculus.{IsTable, IsCalculus, AreDistinct}
-use Rattle.calculus_table.specs.TableFault.{IsFaultOf}
+use Rattle.calculus_table.specs.TableFault.{IsLawFaultOf, IsFaultOf}
 use Rattle.calculus_table.specs.declared.calculus.TableFault.{TableFault}
 use Rattle.calculus_table.specs.declared.calculus.TableFault.TheVariants.{Memory}
 
@@ -54,3 +55,12 @@ TableFaultIsOne =
 abbrev pub CalculusHasNoFault : Type 0
 CalculusHasNoFault =
     (names : List (List ℕ)) (m : Algebra) (f : TableFault) → IsCalculus m → AreDistinct names → IsFaultOf names m f → f ≡ Memory
+
+-- a law that a table breaks, at the first place
+pub record BreaksLaw (m : Algebra) : Type 0 where
+  pub fault : TableFault
+  pub broken : IsLawFaultOf m fault
+
+-- a table of the right shape is a calculus, or it breaks a law
+abbrev pub TableIsCalculusOrBreaksLaw : Type 0
+TableIsCalculusOrBreaksLaw = (m : Algebra) → IsTable m → IsCalculus m ⊎ BreaksLaw m

@@ -1,8 +1,8 @@
 ghost use Rattle.std.specs.Prelude.{◌≡◌};
-ghost use Rattle.calculus_table.specs.Laws.{CompositionIsMonotone, ConverseIsMonotone, CompositionDistributesLeft};
-ghost use Rattle.calculus_table.specs.Laws.{CompositionDistributesRight, ConverseDistributes, ConverseTurnsComposition};
-ghost use Rattle.calculus_table.specs.Laws.{ConverseIsInvolution, IdentityIsNeutral, TableFaultIsOne};
-ghost use Rattle.calculus_table.specs.Laws.{CalculusHasNoFault};
+ghost use Rattle.calculus_table.specs.Laws.{CompositionIsMonotone, ConverseIsMonotone};
+ghost use Rattle.calculus_table.specs.Laws.{CompositionDistributesLeft, CompositionDistributesRight, ConverseDistributes};
+ghost use Rattle.calculus_table.specs.Laws.{ConverseTurnsComposition, ConverseIsInvolution, IdentityIsNeutral};
+ghost use Rattle.calculus_table.specs.Laws.{TableFaultIsOne, CalculusHasNoFault, TableIsCalculusOrBreaksLaw};
 
 use crate::MAX_BASES;
 
@@ -18,9 +18,11 @@ pub fn laws_of_sets()
     ensures identity_is_neutral { IdentityIsNeutral }
 {}
 
-/// The laws of tables: how many base relations one may have, and that it has one fault at most.
+/// The laws of tables: how many base relations one may have, that it has one fault at most, and that it has one where it is
+/// no calculus.
 pub fn laws_of_tables()
     ensures limit { MAX_BASES ≡ 64 }
     ensures table_fault_is_one { TableFaultIsOne }
     ensures calculus_has_no_fault { CalculusHasNoFault }
+    ensures calculus_or_fault { TableIsCalculusOrBreaksLaw }
 {}

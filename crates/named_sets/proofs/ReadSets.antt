@@ -10,15 +10,16 @@ use Rattle.calculus_table.specs.Algebra.{Algebra}
 use Rattle.calculus_table.specs.Composition.{full_of, union_below, if_has}
 use Rattle.calculus_table.specs.Names.{place_of}
 use Rattle.calculus_table.specs.Calculus.{AreDistinct}
-use Rattle.calculus_table.proofs.Sets.{IsWithin-antisym, IsWithin-union, Has-single}
+use Rattle.calculus_table.proofs.Sets.{IsWithin-antisym, IsWithin-union, IsWithin-empty, Has-single}
 use Rattle.calculus_table.proofs.Compositions.{InUnion, union_below-member, Has-union_below, if_has-member, Has-if_has, single-member, full-member, Has-full}
 use Rattle.calculus_table.proofs.Singles.{single-within}
-use Rattle.calculus_table.proofs.PlacesOfNames.{place_of-found}
+use Rattle.calculus_table.proofs.PlacesOfNames.{place_of-found, place_of-below}
 use Rattle.qsr_lex.specs.Names.{is_name}
+use Rattle.qsr_lex.proofs.Found.{IfSome-and_then}
 use Rattle.qsr_lex.specs.Lexemes.{Lexeme, lexeme_with}
-use Rattle.qsr_lex.specs.LineTokens.{names_until_close}
+use Rattle.qsr_lex.specs.LineTokens.{names_until_close, names_at}
 use Rattle.qsr_lex.specs.declared.tokens.TokenKind.TheVariants.{Word}
-use Rattle.named_sets.specs.Named.{set_from, set_of, with_member, name_of, members_below}
+use Rattle.named_sets.specs.Named.{set_from, set_of, set_at, with_member, name_of, members_below}
 
 -- ---- one name after another
 
@@ -132,3 +133,20 @@ low-all m a w = IsWithin-antisym (low a m.size) a
 -- the set of the names of its members
 pub set_of-members : (names : List (List ℕ)) (m : Algebra) (a : ℕ) → AreDistinct names → length names ≡ m.size → IsWithin a (full_of m) → set_of names (members_below names a m.size) ≡ Some a
 set_of-members names m a d each w = set_from-members names a m.size d (omega arith) ∙ ap Some (low-all m a w)
+
+-- ---- a set that is read is one of the base relations that have names
+
+pub set_from-within : (bases : List (List ℕ)) (set : ℕ) (names : List (List ℕ)) → IsWithin set (2 ^ length bases - 1) →
+    IfSome (set_from bases set names) (λ a. IsWithin a (2 ^ length bases - 1))
+set_from-within bases set [] h = h
+set_from-within bases set (name ∷ names) h =
+    IfSome-and_then (λ r. r < length bases) (λ a. IsWithin a (2 ^ length bases - 1)) (λ r. set_from bases (bit_or set (2 ^ r)) names) (place_of name bases) (place_of-below bases name)
+    (λ r below. set_from-within bases (bit_or set (2 ^ r)) names (set-within (length bases) set r h below))
+
+IfSome-set_at : (bases : List (List ℕ)) (found : Option (List (List ℕ) × List Lexeme)) →
+    IfSome {T = Option ℕ × List Lexeme} (option_map (λ f. (set_of bases f.0, f.1)) found) (λ s. IfSome s.0 (λ a. IsWithin a (2 ^ length bases - 1)))
+IfSome-set_at bases None = tt
+IfSome-set_at bases (Some f) = set_from-within bases 0 f.0 (IsWithin-empty (2 ^ length bases - 1))
+
+pub set_at-within : (bases : List (List ℕ)) (tokens : List Lexeme) → IfSome (set_at bases tokens) (λ s. IfSome s.0 (λ a. IsWithin a (2 ^ length bases - 1)))
+set_at-within bases tokens = IfSome-set_at bases (names_at tokens)

@@ -4,3 +4,4 @@ pub mod FactLines
 pub mod WholeFiles
 pub mod PrintedLines
 pub mod ReadAgain
+pub mod Answered

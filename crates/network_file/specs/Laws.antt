@@ -1,5 +1,5 @@
 -- Laws of network files.
-use Rattle.std.specs.Prelude.{◌≡◌, ◌≢◌, ℕ, true, List}
+use Rattle.std.specs.Prelude.{◌≡◌, ◌≢◌, ◌⊎◌, ℕ, true, List, Err}
 use Rattle.std.specs.List.{list_all}
 use Rattle.calculus_table.specs.Calculus.{NamedAlgebra, IsNamedCalculus}
 use Rattle.calculus_table.specs.Composition.{full_of}
@@ -36,3 +36,23 @@ FileHasOneFault = (c : NamedAlgebra) (bytes : List ℕ) (fault other : FileFault
 abbrev pub FileHasNoFault : Type 0
 FileHasNoFault = (c : NamedAlgebra) (bytes : List ℕ) (net : Network) (fault : FileFault) → IsFileOf c bytes net →
     FailsWith (read_network c bytes) fault → fault ≢ Memory → ⊥
+
+-- the fault says something of the text: it isn't out of memory
+abbrev pub IsOfText : FileFault → Type 0
+IsOfText Memory = ⊥
+IsOfText fault = Unit {0}
+
+-- a text is the file of a network
+pub record IsTextOfNetwork (c : NamedAlgebra) (bytes : List ℕ) : Type 0 where
+  pub network : Network
+  pub file : IsFileOf c bytes network
+
+-- a text has a fault
+pub record TextHasFault (c : NamedAlgebra) (bytes : List ℕ) : Type 0 where
+  pub fault : FileFault
+  pub of_text : IsOfText fault
+  pub is : read_network c bytes ≡ Err fault
+
+-- each text is the file of a network or has a fault
+abbrev pub FileHasAnswer : Type 0
+FileHasAnswer = (c : NamedAlgebra) (bytes : List ℕ) → IsTextOfNetwork c bytes ⊎ TextHasFault c bytes

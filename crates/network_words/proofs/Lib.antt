@@ -6,5 +6,5 @@ pub mod Meets
 pub mod Scenarios
 pub mod NetsOfFacts
 pub mod Copies
-mod Existence
+pub mod Existence
 mod NumberedNames

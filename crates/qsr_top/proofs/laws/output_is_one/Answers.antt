@@ -1,5 +1,9 @@
 use Rattle.qsr_top.proofs.OneOutput.{output_once}
+use Rattle.qsr_top.proofs.SomeOutput.{output_there}
 use Rattle.qsr_top.proofs.laws.output_is_one.Goals as goal
 
-pub returns : goal.returns
-returns c = output_once
+pub returns-clause-one : goal.returns-clause-one
+returns-clause-one c = output_once
+
+pub returns-clause-there : goal.returns-clause-there
+returns-clause-there c = output_there
