@@ -6,3 +6,4 @@ pub mod Settled
 pub mod Blocks
 pub mod Loads
 pub mod Closures
+pub mod FullSets

@@ -2,6 +2,8 @@
 
 ghost use Rattle.std.specs.Prelude.{◌≡◌, ◌+◌, ◌<◌, length};
 ghost use Rattle.calculus_table.specs.Calculus.{IsCalculus};
+ghost use Rattle.calculus_table.specs.Rel.{IsWithin};
+ghost use Rattle.calculus_table.specs.Composition.{full_of, converse};
 ghost use Rattle.network_words.specs.Edge.{edge_count};
 ghost use Rattle.network_words.specs.Network.{Network, IsNetwork, relation_between};
 ghost use Rattle.closure_seq.specs.Worklist.{Worklist, IsSized, with_pair};
@@ -15,6 +17,19 @@ use network_words::{Net, edge_between};
 fn identity_of<C: Compose>(c: &C) -> Rel {
     lawful(c);
     Rel::single(c.identity())
+}
+
+/// The set of the converses of the members. For the full set, which most pairs have, that is the full set.
+#[inline(always)]
+fn converse_of<C: Compose>(c: &C, rel: Rel) -> Rel
+    requires { IsWithin rel (full_of (C.algebra c.now)) }
+    ensures { result ≡ converse (C.algebra c.now) rel }
+{
+    lawful(c);
+    if rel == c.full() {
+        return rel;
+    }
+    c.converse(rel)
 }
 
 /// Loads the sets of the pair `(i, j)`, both ways.
@@ -34,7 +49,7 @@ fn load_pair<C: Compose, const P: usize>(work: &mut PairSets, net: &Net, c: &C, 
     lawful(c);
     let rel = net.get(c, i, j);
     work.put::<P>(i, j, rel);
-    work.put::<P>(j, i, c.converse(rel));
+    work.put::<P>(j, i, converse_of(c, rel));
 }
 
 /// Loads the sets of the pairs of node `i` with greater ones, and the identity as that of `i` with itself.

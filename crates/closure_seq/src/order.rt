@@ -1,18 +1,30 @@
 //! An order in which queued edges are proposed: those with the fewest base relations first, since they restrict most
 //! (van Beek and Manchak 1996). Nothing is promised of it, and nothing rests on it but the time that closing takes: who takes a
 //! proposal looks whether that edge is queued.
+//!
+//! The place of an edge is `i * width + j`, where the width is the least power of two of 16 and more that the nodes fit in: so
+//! the room for few nodes is small, and a place is taken apart without a division.
 
-ghost use Rattle.std.specs.Prelude.{◌≡◌, ◌<◌};
+ghost use Rattle.std.specs.Prelude.{◌≡◌, ◌<◌, ◌≤◌};
 
 use calculus_table::Memory;
+use compose_fast::filled;
 use std::alloc::Global;
 
 /// No place, or no list.
 const NONE: u16 = 65535;
 
-/// So many links, each to no place.
-fn links(alloc: Global, count: usize) -> Result<Vec<u16>, Memory> {
-    vec![in alloc; NONE; count].map_err(|_| Memory)
+/// The power of two that is the width for so many nodes.
+fn shift_for(nodes: u32) -> u32
+    ensures { result ≤ 8 }
+{
+    match nodes {
+        0..=16 => 4,
+        17..=32 => 5,
+        33..=64 => 6,
+        65..=128 => 7,
+        _ => 8,
+    }
 }
 
 /// The link at a place, if there is one.
@@ -38,6 +50,7 @@ fn set_link(links: &mut [u16], place: u16, to: u16) {
 /// Doubly linked lists of places, one for each number of base relations.
 #[derive(Debug, Drop)]
 pub(crate) struct Order {
+    shift: u32,
     next: Vec<u16>,
     back: Vec<u16>,
     list: Vec<u16>,
@@ -46,19 +59,29 @@ pub(crate) struct Order {
 }
 
 impl Order {
-    /// Empty lists for so many places.
-    pub(crate) fn new(alloc: Global, places: usize) -> Result<Order, Memory> {
-        let next = links(alloc, places)?;
-        let back = links(alloc, places)?;
-        let list = links(alloc, places)?;
-        let first = links(alloc, 64)?;
+    /// Empty lists for the edges of so many nodes.
+    pub(crate) fn new(alloc: Global, nodes: u32) -> Result<Order, Memory>
+        requires { nodes ≤ 256 }
+    {
+        let shift = shift_for(nodes);
+        let blocks = ((nodes << shift) / 256 + 1) as usize;
+        let next = filled(alloc, NONE, blocks)?;
+        let back = filled(alloc, NONE, blocks)?;
+        let list = filled(alloc, NONE, blocks)?;
+        let first = filled(alloc, NONE, 1)?;
         Ok(Order {
+            shift,
             next,
             back,
             list,
             first,
             some: 0,
         })
+    }
+
+    /// Whether the lists are empty.
+    pub(crate) fn is_empty(&self) -> bool {
+        self.some == 0
     }
 
     /// Empties the lists.
@@ -68,9 +91,10 @@ impl Order {
         self.some = 0;
     }
 
-    /// Puts a place into the list of its number of base relations, out of another.
+    /// Puts the edge from `i` to `j` into the list of its number of base relations, out of another.
     #[inline(always)]
-    pub(crate) fn put(&mut self, place: u16, members: u32) {
+    pub(crate) fn put(&mut self, i: u32, j: u32, members: u32) {
+        let place = (((i << self.shift % 32) | j) & 65535) as u16;
         let list = (members.saturating_sub(1) % 64) as u16;
         let old = link_at(&self.list, place);
         if old == list {
@@ -112,8 +136,16 @@ impl Order {
         set_link(&mut self.list, place, NONE);
     }
 
+    /// Takes an edge out of the first list that has one.
+    pub(crate) fn take(&mut self) -> Option<(u32, u32)> {
+        let place = u32::from(self.take_place()?);
+        let shift = self.shift % 32;
+        let i = place >> shift;
+        Some((i, place ^ (i << shift)))
+    }
+
     /// Takes a place out of the first list that has one.
-    pub(crate) fn take(&mut self) -> Option<u16> {
+    fn take_place(&mut self) -> Option<u16> {
         if self.some == 0 {
             return None;
         }

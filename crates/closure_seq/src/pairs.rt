@@ -6,34 +6,11 @@
 //! An edge is queued where its mark says so. The order only proposes which of them comes next; where its proposal isn't queued,
 //! the first mark is taken.
 
-ghost use Rattle.std.specs.Prelude.{◌≡◌, IfOk, replicate, false};
-
 use crate::order::Order;
 use calculus_table::{Memory, Rel};
-use compose_fast::put_set;
+use compose_fast::{filled, put_set};
 use std::alloc::Global;
 use std::marker::Model;
-
-/// `count` empty sets.
-fn empty_sets(alloc: Global, count: usize) -> Result<Vec<Rel>, Memory>
-    ensures { IfOk result (λ sets. sets.items ≡ replicate count 0) }
-{
-    vec![in alloc; Rel::EMPTY; count].map_err(|_| Memory)
-}
-
-/// `count` bytes, each 0.
-fn empty_bytes(alloc: Global, count: usize) -> Result<Vec<u8>, Memory>
-    ensures { IfOk result (λ bytes. bytes.items ≡ replicate count 0) }
-{
-    vec![in alloc; 0; count].map_err(|_| Memory)
-}
-
-/// `count` marks, none of them set.
-fn unset_marks(alloc: Global, count: usize) -> Result<Vec<bool>, Memory>
-    ensures { IfOk result (λ marks. marks.items ≡ replicate count false) }
-{
-    vec![in alloc; false; count].map_err(|_| Memory)
-}
 
 /// The sets of the ordered pairs of so many nodes, and the edges that are queued.
 #[derive(Debug, Drop)]
@@ -71,11 +48,10 @@ impl PairSets {
         requires bounded { nodes ≤ MAX_NODES }
         ensures { IfOk result (λ work. work.nodes ≡ nodes) }
     {
-        let places = (256 * nodes) as usize;
-        let sets = empty_sets(alloc, places)?;
-        let bytes = empty_bytes(alloc, 524288)?;
-        let queued = unset_marks(alloc, places)?;
-        let order = Order::new(alloc, places)?;
+        let sets = filled(alloc, Rel::EMPTY, nodes as usize)?;
+        let bytes = filled(alloc, 0, 2048)?;
+        let queued = filled(alloc, false, nodes as usize)?;
+        let order = Order::new(alloc, nodes)?;
         Ok(PairSets {
             nodes,
             planes: 8,
@@ -149,9 +125,9 @@ impl PairSets {
         ensures sized { IsSized self.old }
     {
         let _ = &self.nodes;
-        let place = if i < j { 256 * i + j } else { 256 * j + i };
-        self.queued[place as usize] = true;
-        self.order.put(place as u16, members);
+        let (low, high) = if i < j { (i, j) } else { (j, i) };
+        self.queued[(256 * low + high) as usize] = true;
+        self.order.put(low, high, members);
     }
 
     /// Whether the edge from `i` to `j` is queued.
@@ -164,13 +140,12 @@ impl PairSets {
     }
 
     /// The edge that the order proposes, if it is queued.
+    #[inline(always)]
     fn proposed(&mut self) -> Option<(u32, u32)>
         ensures same { self.new ≡ self.old }
         ensures edge { IfSome result (λ e. IsWaiting self.old e.0 e.1) }
     {
-        let place = self.order.take()?;
-        let i = u32::from(place) / 256;
-        let j = u32::from(place) % 256;
+        let (i, j) = self.order.take()?;
         if i < j && j < self.nodes && self.is_queued(i, j) {
             Some((i, j))
         } else {
@@ -193,6 +168,7 @@ impl PairSets {
     }
 
     /// The first edge that is queued.
+    #[inline(never)]
     fn first_queued(&self) -> Option<(u32, u32)>
         ensures { MatchOption result ((i : ℕ) → i < self.now.nodes → IsIdle self.now i) (λ e. IsWaiting self.now e.0 e.1) }
     {
@@ -217,6 +193,7 @@ impl PairSets {
     }
 
     /// Takes an edge off the queue.
+    #[inline(always)]
     pub(crate) fn pop(&mut self) -> Option<(u32, u32)>
         ensures idle { IfNone result ((self.new ≡ self.old) × ((i : ℕ) → i < self.old.nodes → IsIdle self.old i)) }
         ensures queued { IfSome result (λ e. IsWaiting self.old e.0 e.1) }
@@ -236,10 +213,13 @@ impl PairSets {
         self.taken
     }
 
-    /// Takes every edge off the queue.
+    /// Takes every edge off the queue. Where the order proposes none, none is queued.
     pub(crate) fn clear(&mut self)
         ensures { self.new ≡ record self.old { queued = self.new.queued } }
     {
+        if self.order.is_empty() {
+            return;
+        }
         self.queued.fill(false);
         self.order.clear();
     }

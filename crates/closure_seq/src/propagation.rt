@@ -97,6 +97,7 @@ fn narrow_proper<C: Compose, const P: usize>(
 }
 
 /// Narrows the set of `(i, k)` along `j` for the nodes `k` of a block whose lane is set in `gaps`.
+#[inline(always)]
 fn narrow_lanes<C: Compose, const P: usize>(
     work: &mut PairSets,
     c: &C,
@@ -157,6 +158,7 @@ fn propagate_block<C: Compose, const P: usize>(
 }
 
 /// Narrows the set of each pair `(i, k)` along `j`.
+#[inline(always)]
 fn propagate_from<C: Compose, const P: usize>(
     work: &mut PairSets,
     tables: &mut Tables,

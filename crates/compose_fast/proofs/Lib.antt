@@ -5,3 +5,4 @@ pub mod Stores
 pub mod PlaneLemmas
 pub mod ByteUnions
 pub mod Clear
+pub mod Fills

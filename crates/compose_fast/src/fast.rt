@@ -168,8 +168,10 @@ impl Fast {
         ensures { result ≡ row_composition self.now r b }
     {
         let mut all = Rel::EMPTY;
+        let mut rest = b.word();
         for h in 0..self.nibbles {
-            all = all.union(self.rows[(256 * r + place_of(b, h)) as usize]);
+            all = all.union(self.rows[(256 * r + place_of(rest, h)) as usize]);
+            rest >>= 4;
         }
         all
     }
@@ -199,8 +201,10 @@ impl Fast {
         ensures calculus { IsCalculus self.now }
     {
         let mut all = Rel::EMPTY;
+        let mut rest = a.word();
         for h in 0..self.nibbles {
-            all = all.union(self.places[place_of(a, h) as usize]);
+            all = all.union(self.places[place_of(rest, h) as usize]);
+            rest >>= 4;
         }
         all
     }

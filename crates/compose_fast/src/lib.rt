@@ -14,12 +14,14 @@ mod fast;
 mod kernels;
 mod members;
 mod nibbles;
+mod room;
 mod tables;
 mod vectors;
 
 pub use fast::Fast;
 pub use kernels::{first_difference, first_zero, or_rows};
 pub use members::without;
+pub use room::filled;
 pub use tables::{PLANE, Tables, put_set};
 
 #[cfg(test)]

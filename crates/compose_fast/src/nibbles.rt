@@ -1,21 +1,21 @@
 //! The places of a table: one for each value of each nibble of a set.
 
-ghost use Rattle.std.specs.Prelude.{◌≡◌, ℕ, ◌+◌, ◌*◌, ◌<◌};
+ghost use Rattle.std.specs.Prelude.{◌≡◌, ℕ, ◌+◌, ◌*◌, ◌%◌, ◌<◌};
 ghost use Rattle.calculus_table.specs.Calculus.{IsCalculus};
 ghost use Rattle.calculus_table.specs.Rel.{IsWithin};
 ghost use Rattle.calculus_table.specs.Composition.{full_of};
-ghost use Rattle.compose_fast.specs.Nibbles.{nibble, set_of_place, composition_at, converse_of_place};
+ghost use Rattle.compose_fast.specs.Nibbles.{set_of_place, composition_at, converse_of_place};
 
 use calculus_table::{Compose, Rel};
 
-/// The place for nibble `h` of a set.
+/// The place for nibble `h` of a set, of whose word `rest` is what stands from that nibble on.
 #[inline(always)]
-pub(crate) fn place_of(a: Rel, h: u32) -> u32
+pub(crate) fn place_of(rest: u64, h: u32) -> u32
     requires { h < 16 }
-    ensures value { result ≡ 16 * h + nibble a h }
+    ensures value { result ≡ 16 * h + rest % 16 }
     ensures below { result < 256 }
 {
-    16 * h + (a.word() >> (4 * h) & 15) as u32
+    16 * h + (rest & 15) as u32
 }
 
 /// The set of a place.
@@ -33,7 +33,11 @@ pub(crate) fn composition_at<C: Compose>(c: &C, r: u32, d: u32) -> Rel
     requires place { d < 256 }
     ensures { result ≡ composition_at (C.algebra c.now) r d }
 {
-    c.compose(Rel::single(r), set_of_place(d).meet(c.full()))
+    let set = set_of_place(d).meet(c.full());
+    if set.is_empty() {
+        return Rel::EMPTY;
+    }
+    c.compose(Rel::single(r), set)
 }
 
 /// The converse of the set of a place, as far as that has base relations of the calculus.
@@ -41,5 +45,9 @@ pub(crate) fn converse_of_place<C: Compose>(c: &C, d: u32) -> Rel
     requires { d < 256 }
     ensures { result ≡ converse_of_place (C.algebra c.now) d }
 {
-    c.converse(set_of_place(d).meet(c.full()))
+    let set = set_of_place(d).meet(c.full());
+    if set.is_empty() {
+        return Rel::EMPTY;
+    }
+    c.converse(set)
 }

@@ -8,7 +8,7 @@
 //! are the unions of those of its members, 2 P vectors a plane. What a set gives composed with 16 others is then read by 2 P
 //! shuffles a plane (Mula 2016 tells the method for counting bits).
 
-ghost use Rattle.std.specs.Prelude.{◌≡◌, ◌≢◌, ℕ, ◌+◌, ◌*◌, ◌<◌, ◌≤◌, ◌↔◌, length, slice_index, replicate, IfOk, bit_and, bit_or};
+ghost use Rattle.std.specs.Prelude.{◌≡◌, ◌≢◌, ℕ, ◌+◌, ◌*◌, ◌<◌, ◌≤◌, ◌↔◌, length, slice_index, bit_and, bit_or};
 ghost use Rattle.calculus_table.specs.Rel.{Has};
 ghost use Rattle.calculus_table.specs.Calculus.{IsCalculus};
 ghost use Rattle.compose_fast.specs.Lanes.{HasLanes};
@@ -17,6 +17,7 @@ ghost use Rattle.compose_fast.specs.Planes.{along_at, IsWithinAlong};
 
 use crate::members::without;
 use crate::nibbles::composition_at;
+use crate::room::filled;
 use crate::vectors::{along, both, differing, either, load, store};
 use calculus_table::{Compose, Memory, Rel, lawful};
 use std::alloc::Global;
@@ -56,13 +57,6 @@ pub fn put_set<const P: usize>(bytes: &mut [u8], at: usize, a: Rel)
     for p in 0..P {
         bytes[PLANE * p + at] = (a.word() >> (8 * p) & 255) as u8;
     }
-}
-
-/// `count` bytes, each 0.
-fn zeros(alloc: Global, count: usize) -> Result<Vec<u8>, Memory>
-    ensures { IfOk result (λ bytes. bytes.items ≡ replicate count 0) }
-{
-    vec![in alloc; 0; count].map_err(|_| Memory)
 }
 
 /// Writes the bytes of a set, byte `p` at `at + 256 p`.
@@ -186,8 +180,8 @@ impl Tables {
 
     /// Room for the tables of a calculus of any size.
     pub fn new(alloc: Global) -> Result<Tables, Memory> {
-        let bases = zeros(alloc, 131072)?;
-        let set = zeros(alloc, 2048)?;
+        let bases = filled(alloc, 0, 512)?;
+        let set = filled(alloc, 0, 8)?;
         Ok(Tables { bases, set })
     }
 

@@ -1,6 +1,9 @@
+ghost use Rattle.std.specs.Prelude.{◌≡◌, ℕ, ◌<◌, length, slice_index, IsTrue, IfOk};
+ghost use Rattle.calculus_table.specs.Rel.{IsWithin};
+
 use super::*;
 use calculus_builtin::{allen, rcc8};
-use calculus_table::{Calculus, Compose, Memory, Rel};
+use calculus_table::{Calculus, Compose, Memory, Rel, TableFault};
 use std::alloc::Global;
 use std::process::Abort;
 use std::test::Fail;
@@ -58,6 +61,118 @@ fn composes_like_the_plain_calculus(rt: HostRuntime) -> Result<(), Fail> {
     let mut random = Random { state: 5 };
     for _ in 0..4000 {
         assert_alike(&rt, &plain, &fast, random.next(), random.next());
+    }
+    Ok(())
+}
+
+/// The composition of two base relations.
+fn compose_bases(rt: &impl Abort, c: &Calculus, r: u32, s: u32) -> Rel {
+    assert!(rt; r < 64 && s < 64);
+    let (a, b) = (Rel::single(r), Rel::single(s));
+    assert!(rt; a.within(c.full()) && b.within(c.full()));
+    c.compose(a, b)
+}
+
+/// The entry at place `e` of the table of the product of a calculus of eight base relations with itself, whose base relation
+/// `8 r + s` is the pair `(r, s)`.
+fn product_entry(rt: &impl Abort, c: &Calculus, e: u32) -> Rel {
+    let (a, b) = (e / 64 % 64, e % 64);
+    let first = compose_bases(rt, c, a / 8, b / 8);
+    let second = compose_bases(rt, c, a % 8, b % 8);
+    let mut word = 0;
+    for r in 0..8 {
+        if first.has(r) {
+            word |= second.word() << (8 * r);
+        }
+    }
+    Rel::of(word)
+}
+
+/// 64 names that differ.
+fn product_names(alloc: Global) -> Result<Vec<String>, Memory>
+    ensures { IfOk result (λ names. length names.items ≡ 64) }
+{
+    let mut names = Vec::new(alloc);
+    for r in 0..64u32 {
+        let name = format!(in alloc; "{r}").map_err(|_| Memory)?;
+        names.push(name).map_err(|_| Memory)?;
+    }
+    Ok(names)
+}
+
+/// Whether each is a base relation.
+fn are_bases(converses: &[u32]) -> bool
+    ensures { IsTrue result → (r : ℕ) → r < length converses.now → slice_index converses.now r < 64 }
+{
+    for r in converses {
+        if *r >= 64 {
+            return false;
+        }
+    }
+    true
+}
+
+/// Whether each is a set of 64 base relations.
+fn are_sets(table: &[Rel]) -> bool
+    ensures { IsTrue result → (e : ℕ) → e < length table.now → IsWithin (slice_index table.now e) 18446744073709551615 }
+{
+    for set in table {
+        if !set.within(Rel::of(u64::MAX)) {
+            return false;
+        }
+    }
+    true
+}
+
+/// The product of RCC-8 with itself: 64 pairs of relations.
+fn product(rt: &impl Abort, alloc: Global) -> Result<Calculus, Fail> {
+    let c = rcc8(alloc)?;
+    let mut converses = Vec::new(alloc);
+    for r in 0..64 {
+        let (first, second) = (Rel::single(r / 8), Rel::single(r % 8));
+        assert!(rt; first.within(c.full()) && second.within(c.full()));
+        let (first, second) = (c.converse(first), c.converse(second));
+        assert!(rt; !first.is_empty() && !second.is_empty());
+        converses.push((8 * (first.least() % 8) + second.least() % 8) % 64)?;
+    }
+    let mut table = Vec::new(alloc);
+    for e in 0..4096 {
+        table.push(product_entry(rt, &c, e))?;
+    }
+    let names = product_names(alloc)?;
+    Ok(calculus_of(rt, alloc, names, &converses, &table)?)
+}
+
+/// The calculus of 64 base relations of these lists, of which the last is the identity.
+fn calculus_of(
+    rt: &impl Abort,
+    alloc: Global,
+    names: Vec<String>,
+    converses: &[u32],
+    table: &[Rel],
+) -> Result<Calculus, TableFault>
+    requires { length names.items ≡ 64 }
+{
+    assert!(rt; converses.len() == 64 && table.len() == 4096);
+    assert!(rt; are_bases(converses) && are_sets(table));
+    Calculus::new(alloc, names, 63, converses, table)
+}
+
+#[test]
+fn composes_64_base_relations_like_the_plain_calculus(rt: HostRuntime) -> Result<(), Fail> {
+    let plain = product(&rt, rt.alloc())?;
+    let fast = Fast::new(rt.alloc(), &plain)?;
+    let mut random = Random { state: 7 };
+    for _ in 0..2000 {
+        let (a, b) = (random.next(), random.next());
+        assert_alike(&rt, &plain, &fast, a, b);
+        assert_alike(
+            &rt,
+            &plain,
+            &fast,
+            a & random.next() & random.next(),
+            b & random.next(),
+        );
     }
     Ok(())
 }

@@ -14,6 +14,9 @@ use std::marker::Model;
 /// How many lines are kept. A prime, so that sets which differ in their high members alone are kept apart.
 const SLOTS: usize = 251;
 
+/// How many bytes a set's line seldom has more than, over a small calculus.
+const LINE_LEN: usize = 64;
+
 /// The line of a set.
 #[derive(Drop)]
 struct WrittenSet {
@@ -96,7 +99,9 @@ fn empty_places(alloc: Global, count: usize) -> Result<Vec<Option<WrittenSet>>, 
 fn line_of(alloc: Global, c: &Calculus, set: Rel) -> Result<String, Memory>
     ensures { IfOk result (λ line. string_bytes line ≡ set_line c.now set) }
 {
-    let mut line = String::new(alloc);
+    let Ok(mut line) = String::with_capacity(alloc, LINE_LEN) else {
+        return Err(Memory);
+    };
     match push_set(&mut line, c, set) {
         Ok(()) => Ok(line),
         Err(_) => Err(Memory),
@@ -109,7 +114,8 @@ fn push_member(text: &mut String, c: &Calculus, set: Rel, r: u32) -> Result<(), 
     ensures { OnOk result (string_bytes text.new ≡ string_bytes text.old ++ member_text c.now.names set r) }
 {
     if set.has(r) {
-        write!(text, "{} ", c.name(r))?;
+        text.push_str(c.name(r))?;
+        text.push_str(" ")?;
     }
     Ok(())
 }

@@ -1,5 +1,17 @@
+use Rattle.std.proofs.Common.{◌≡◌, sym, ◌∙◌, ap}
+use Rattle.std.specs.Prelude.{bit_and}
+use Rattle.calculus_table.specs.Composition.{full_of, converse}
 use Rattle.calculus_table.proofs.Sets.{IsWithin-meet_r}
+use Rattle.compose_fast.specs.Nibbles.{set_of_place}
+use Rattle.compose_fast.proofs.Rows.{converse-of_empty}
 use Rattle.compose_fast.proofs.nibbles.converse_of_place.Goals as goal
 
 pub converse-requires : goal.converse-requires
-converse-requires g c = rw (c.meet.ensures, c.full.ensures) (IsWithin-meet_r _ _)
+converse-requires g c = rw (c.meet-set.ensures, c.full.ensures) (IsWithin-meet_r _ _)
+
+pub returns-then-is_empty : goal.returns-then-is_empty
+returns-then-is_empty g c =
+    let m = g.C.Compose.algebra c.args.c.now in
+    let set : c.meet-set.result ≡ bit_and (set_of_place c.args.d) (full_of m) = rw (← c.set_of_place.ensures, ← c.full.ensures) c.meet-set.ensures in
+    let empty : bit_and (set_of_place c.args.d) (full_of m) ≡ 0 = sym set ∙ c.is_empty.ensures.0 c.if-is_empty.true in
+    sym (ap (converse m) empty ∙ converse-of_empty m)
