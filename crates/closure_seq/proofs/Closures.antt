@@ -43,6 +43,31 @@ Refines-inside m n words other work s l inside = record {
       rw (relation_between-forward m n other i j o, relation_between-forward m n words i j o) at w);
 }
 
+-- where each set is empty the network is closed
+pub IsClosed-empty : (m : Algebra) (n : ℕ) (words : List ℕ) → ((e : ℕ) → slice_index words e ≡ 0) → IsClosed m n words
+IsClosed-empty m n words z = record {
+  each = λ i j k t. subst (λ y. IsWithin y (composition m (relation_between m n words i j) (relation_between m n words j k))) (sym (all-empty i k)) (IsWithin-empty _);
+}
+  where
+    all-empty : (i k : ℕ) → relation_between m n words i k ≡ 0
+    all-empty i k = elim (cases_lt i k) [
+      | inl h ↦ relation_between-forward m n words i k h ∙ z (edge_at n i k)
+      | inr h ↦ relation_between-backward m n words i k h ∙ ap (converse m) (z (edge_at n k i)) ∙ converse-empty m
+    ]
+
+-- and it is its own closure
+pub IsClosure-empty : (m : Algebra) (n : ℕ) (words closure : List ℕ) → ((e : ℕ) → slice_index words e ≡ 0) → length closure ≡ length words → ((e : ℕ) → slice_index closure e ≡ 0) → IsClosure m n words closure
+IsClosure-empty m n words closure none l z =
+    let within = λ (e x : ℕ). subst (λ y. IsWithin y x) (sym (z e)) (IsWithin-empty x) in
+    record {
+      length_is = l;
+      closed = IsClosed-empty m n closure z;
+      within = record { each = λ e. within e (slice_index words e) };
+      greatest = λ other l' closed w. record {
+        each = λ e. subst (λ y. IsWithin y (slice_index closure e)) (sym (empty-within (slice_index other e) (subst (IsWithin (slice_index other e)) (none e) (w.each e)))) (IsWithin-empty _);
+      };
+    }
+
 module _ (m : Algebra) (n : ℕ) (words closure : List ℕ) (a b : Worklist) (net : IsNetwork m n words) (start : IsInStep m n words a) (r : IsRefinement m a b) where
   -- what closed networks within become
   kept : (other : List ℕ) → length other ≡ length words → IsClosed m n other → Refines other words → IsInside m other b
@@ -70,7 +95,7 @@ module _ (m : Algebra) (n : ℕ) (words closure : List ℕ) (a b : Worklist) (ne
       let none = λ (e x : ℕ). subst (λ y. IsWithin y x) (sym (z e)) (IsWithin-empty x) in
       record {
         length_is = l;
-        closed = record { each = λ i j k t. subst (λ y. IsWithin y (composition m (relation_between m n closure i j) (relation_between m n closure j k))) (sym (all-empty i k)) (IsWithin-empty _) };
+        closed = IsClosed-empty m n closure z;
         within = record { each = λ e. none e (slice_index words e) };
         greatest = λ other l' closed w. record {
           each = λ e.
@@ -82,12 +107,6 @@ module _ (m : Algebra) (n : ℕ) (words closure : List ℕ) (a b : Worklist) (ne
         };
       }
     where
-      all-empty : (i k : ℕ) → relation_between m n closure i k ≡ 0
-      all-empty i k = elim (cases_lt i k) [
-        | inl h ↦ relation_between-forward m n closure i k h ∙ z (edge_at n i k)
-        | inr h ↦ relation_between-backward m n closure i k h ∙ ap (converse m) (z (edge_at n k i)) ∙ converse-empty m
-      ]
-
       gone : (other : List ℕ) (i k : ℕ) → IsCalculus m → IsNetwork m n other → IsClosed m n other → IsProperPair n i k → relation_between m n other i k ≡ 0 → (e : ℕ) → slice_index other e ≡ 0
       gone other i k c other-net closed p at e = elim (cases_lt i k) [
         | inl o ↦ closed-empty m n (edge_at n i k) other c other-net closed (edge_at-lt n i k o p.second_below) (sym (relation_between-forward m n other i k o) ∙ at) e

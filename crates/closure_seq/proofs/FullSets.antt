@@ -11,7 +11,7 @@ use Rattle.calculus_table.proofs.Compositions.{converse-converse, converse-mono}
 pub converse-full : (m : Algebra) → IsCalculus m → converse m (full_of m) ≡ full_of m
 converse-full m k =
     let full = full_of m in
-    let turned = converse m full in
-    let within : IsWithin turned full = converse-within m full k.table in
-    IsWithin-antisym turned full within
-    (subst (λ x. IsWithin x turned) (converse-converse m full k (IsWithin-refl full)) (converse-mono m turned full within))
+    let all = converse m full in
+    let within : IsWithin all full = converse-within m full k.table in
+    IsWithin-antisym all full within
+    (subst (λ x. IsWithin x all) (converse-converse m full k (IsWithin-refl full)) (converse-mono m all full within))

@@ -7,3 +7,8 @@ pub mod Blocks
 pub mod Loads
 pub mod Closures
 pub mod FullSets
+pub mod Trails
+pub mod InStep
+pub mod Standing
+pub mod Rows
+pub mod Counted

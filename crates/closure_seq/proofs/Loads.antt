@@ -33,7 +33,7 @@ IsRowLoaded-pair m n words work i j x y z o b xe ye p =
     let kept = λ (a c : ℕ) (ac : a < c) (cb : c < n) (other : ¬ IsSamePair a c i j) (l : IsPairLoaded m n words work a c).
     let q = pair-ordered n a c ac cb in
     let e1 = with_pair-other work.sets n i j x y few long pair a c q other ∙ l.0 in
-    let e2 = with_pair-other work.sets n i j x y few long pair c a (pair-swap n a c q) (λ s. other (turned a c s)) ∙ l.1 in
+    let e2 = with_pair-other work.sets n i j x y few long pair c a (pair-swap n a c q) (λ s. other (swapped a c s)) ∙ l.1 in
     let both : IsPairLoaded m n words (record work { sets = with_pair work.sets i j x y }) a c = (e1, e2) in both in
     record {
       nodes = at;
@@ -44,9 +44,9 @@ IsRowLoaded-pair m n words work i j x y z o b xe ye p =
       ];
     }
   where
-    turned : {i j : ℕ} (a c : ℕ) → IsSamePair c a i j → IsSamePair a c i j
-    turned a c (inl s) = inr (s.1, s.0)
-    turned a c (inr s) = inl (s.1, s.0)
+    swapped : {i j : ℕ} (a c : ℕ) → IsSamePair c a i j → IsSamePair a c i j
+    swapped a c (inl s) = inr (s.1, s.0)
+    swapped a c (inr s) = inl (s.1, s.0)
 
     apart : (i j : ℕ) → i < j → (a c : ℕ) → a < i → a < c → ¬ IsSamePair a c i j
     apart i j o a c ai ac (inl s) = omega (arith, s.0)

@@ -1,7 +1,8 @@
 -- The places of pairs and of edges.
-use Rattle.std.proofs.Common.{◌≡◌, ◌≢◌, ℕ, ◌+◌, ◌*◌, ◌<◌, ◌≤◌, Bool, true, false, cond, List, length, get_or, set, replicate, sym, ◌∙◌, ap, subst, arith, ◌⊎◌, inl, inr}
+use Rattle.std.proofs.Common.{◌≡◌, ◌≢◌, ℕ, ◌+◌, ◌*◌, zero, suc, ◌<◌, ◌≤◌, Bool, true, false, cond, List, length, get_or, set, replicate, count_by, refl, sym, ◌∙◌, ap, subst, arith, ◌⊎◌, inl, inr}
 use Rattle.std.proofs.lemmas.Bool.{cases_lt, cases_eq, lt-ltb, le-ltb, false≢true}
 use Rattle.std.proofs.lemmas.List.{get_or-set_same, get_or-set_other, get_or-replicate, length-replicate, get_or_past}
+use Rattle.std.proofs.lemmas.List.Sums.{sum_by-set, sum_by-cons}
 use Rattle.network_words.specs.Edge.{IsProperPair, IsSamePair}
 use Rattle.closure_seq.specs.Worklist.{Worklist, IsQueued, IsWaiting, edge_place}
 
@@ -60,6 +61,13 @@ none-set n i = elim (cases_lt i n) [
   | inl h ↦ get_or-replicate n i false false h
   | inr h ↦ get_or_past (replicate n false) i false (omega (arith, length-replicate n false))
 ]
+
+pub count-none : (n : ℕ) → count_by (λ b. b) (replicate n false) ≡ 0
+count-none zero = refl
+count-none (suc n) = omega (arith, sum_by-cons (λ (b : Bool). cond b 1 0) false (replicate n false), count-none n)
+
+pub count-cleared : (xs : List Bool) (e : ℕ) → e < length xs → get_or xs e false ≡ true → count_by (λ b. b) (set xs e false) + 1 ≡ count_by (λ b. b) xs
+count-cleared xs e l h = omega (arith, rw h at (sum_by-set (λ (b : Bool). cond b 1 0) xs e false false l))
 
 -- a mark that is set stays, unless it is the one that is cleared
 pub mark-kept : (xs : List Bool) (e d : ℕ) (a : Bool) → get_or xs d false ≡ true → (d ≢ e) ⊎ (a ≡ true) → get_or (set xs e a) d false ≡ true

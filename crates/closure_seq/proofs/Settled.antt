@@ -1,8 +1,7 @@
 -- Each triple that isn't closed has a source edge that is queued.
-use Rattle.std.proofs.Common.{◌≡◌, ◌≢◌, ℕ, ◌+◌, ◌<◌, Bool, true, false, cond, List, length, get_or, set, sym, ◌∙◌, subst, arith, inl, inr, count_by}
+use Rattle.std.proofs.Common.{◌≡◌, ◌≢◌, ℕ, ◌<◌, Bool, false, List, length, sym, ◌∙◌, subst, arith, inl, inr}
 use Rattle.std.specs.Prelude.{bit_and, slice_set}
 use Rattle.std.proofs.lemmas.Bool.{cases_lt}
-use Rattle.std.proofs.lemmas.List.Sums.{sum_by-set}
 use Rattle.calculus_table.specs.Rel.{IsWithin}
 use Rattle.calculus_table.specs.Algebra.{Algebra}
 use Rattle.calculus_table.specs.Composition.{composition, converse}
@@ -13,7 +12,7 @@ use Rattle.network_words.specs.Edge.{IsProperPair, IsProperTriple, IsSamePair}
 use Rattle.network_words.proofs.Pairs.{pair-first, pair-second, pair-outer, triple-swap}
 use Rattle.closure_seq.specs.Worklist.{Worklist, IsSized, IsQueued, IsIdle, edge_place, set_of, work_left}
 use Rattle.closure_seq.specs.Propagation.{AreConverses, IsReady, IsStep, HasEmpty, IsClosedAlong, IsSettledAt, IsSettled, IsSettledBut}
-use Rattle.closure_seq.proofs.Places.{edge_place-inside, same-cases, mark-kept, IsQueued-swap, pair-from_place}
+use Rattle.closure_seq.proofs.Places.{edge_place-inside, same-cases, mark-kept, count-cleared, IsQueued-swap, pair-from_place}
 use Rattle.closure_seq.proofs.Steps.{refined, IsStep-refined, refined-first, refined-other}
 
 -- ---- one triple narrowed
@@ -122,9 +121,6 @@ IsSettledBut-popped m work i j z pair h = λ a b c t ne ne' p q.
     let kept = λ (x y : ℕ) (xy : IsProperPair n x y) (differ : ¬ IsSamePair x y i j) (w : IsQueued work x y).
     mark-kept work.queued (edge_place i j) (edge_place x y) false w (inl (λ e. differ (pair-from_place n x y i j z.bounded xy pair e))) in
     h a b c t (λ w. p (kept a b (pair-first n a b c t) ne w)) (λ w. q (kept b c (pair-second n a b c t) ne' w))
-
-count-cleared : (xs : List Bool) (e : ℕ) → e < length xs → get_or xs e false ≡ true → count_by (λ b. b) (set xs e false) + 1 ≡ count_by (λ b. b) xs
-count-cleared xs e l h = omega (arith, rw h at (sum_by-set (λ (b : Bool). cond b 1 0) xs e false false l))
 
 pub work_left-popped : (work : Worklist) (i j : ℕ) → IsSized work → IsProperPair work.nodes i j → IsQueued work i j → work_left (popped work i j) < work_left work
 work_left-popped work i j z pair h =

@@ -117,10 +117,10 @@ module _ (m : Algebra) (work : Worklist) (i k x : ℕ) (c : IsCalculus m) (s : A
   -- a fact of each pair's set, from one of x, one of its converse, and the old ones
   by_pair : (P : ℕ → ℕ → ℕ → Type 0) → P i k x → P k i (converse m x) → ((a b : ℕ) → IsProperPair work.nodes a b → ¬ IsSamePair a b i k → P a b (set_of work a b)) →
       (a b : ℕ) → IsProperPair work.nodes a b → P a b (set_of (refined m work i k x) a b)
-  by_pair P here turned rest a b q = elim (same-cases work.nodes a b i k z.bounded q p) [
+  by_pair P here swapped rest a b q = elim (same-cases work.nodes a b i k z.bounded q p) [
     | inl same ↦ elim same [
       | inl e ↦ rw (e.0, e.1, first) here
-      | inr e ↦ rw (e.0, e.1, second) turned
+      | inr e ↦ rw (e.0, e.1, second) swapped
     ]
     | inr ne ↦ rw (other a b q ne) (rest a b q ne)
   ]
@@ -132,12 +132,12 @@ module _ (m : Algebra) (work : Worklist) (i k x : ℕ) (c : IsCalculus m) (s : A
   AreConverses-refined = record {
     within = by_pair (λ a b y. IsWithin y (full_of m)) full (converse-within m x c.table) (λ a b q ne. s.within a b q);
     converse = by_pair (λ a b y. set_of (refined m work i k x) b a ≡ converse m y) second (first ∙ sym (converse-converse m x c full))
-        (λ a b q ne. other b a (record { first_below = q.second_below; second_below = q.first_below; differ = λ e. q.differ (sym e) }) (λ t. ne (turned t)) ∙ s.converse a b q);
+        (λ a b q ne. other b a (record { first_below = q.second_below; second_below = q.first_below; differ = λ e. q.differ (sym e) }) (λ t. ne (swapped t)) ∙ s.converse a b q);
   }
     where
-      turned : {a b : ℕ} → IsSamePair b a i k → IsSamePair a b i k
-      turned (inl e) = inr (e.1, e.0)
-      turned (inr e) = inl (e.1, e.0)
+      swapped : {a b : ℕ} → IsSamePair b a i k → IsSamePair a b i k
+      swapped (inl e) = inr (e.1, e.0)
+      swapped (inr e) = inl (e.1, e.0)
 
   pub IsStep-refined : x ≢ set_of work i k → ((words : List ℕ) → IsNetwork m work.nodes words → IsClosed m work.nodes words → IsInside m words work → IsWithin (relation_between m work.nodes words i k) x) →
       IsStep m work (refined m work i k x)
@@ -186,6 +186,16 @@ IsRefinement-step m a b b' c queued e p q' =
       within = λ i j r. IsWithin-trans _ _ _ (q.within i j (pair i j r)) (p.within i j r);
       kept = λ words net closed inside. q.kept words (subst (λ n. IsNetwork m n words) nodes net) (subst (λ n. IsClosed m n words) nodes closed) (p.kept words net closed inside);
     }
+
+-- what is queued plays no part in a refinement
+pub IsRefinement-queue : (m : Algebra) (a b : Worklist) (queued : List Bool) → IsRefinement m a b → IsRefinement m a (record b { queued = queued })
+IsRefinement-queue m a b queued p = record {
+  nodes = p.nodes;
+  planes = p.planes;
+  sets = record { within = p.sets.within; converse = p.sets.converse };
+  within = p.within;
+  kept = p.kept;
+}
 
 pub IsReady-refinement : (m : Algebra) (planes : ℕ) (old new : Worklist) → IsReady m planes old → IsRefinement m old new → IsReady m planes new
 IsReady-refinement m planes old new r s = record { calculus = r.calculus; few = r.few; enough = r.enough; planes_are = s.planes ∙ r.planes_are; sets = s.sets }

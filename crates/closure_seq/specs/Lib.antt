@@ -1,2 +1,4 @@
 pub mod Worklist
 pub mod Propagation
+pub mod Levels
+pub mod Paths

@@ -20,11 +20,13 @@ pub(crate) struct PairSets {
     sets: Vec<Rel>,
     bytes: Vec<u8>,
     queued: Vec<bool>,
+    waiting: usize,
     order: Order,
     taken: u64,
 }
 
 impl Model for PairSets {
+    ghost use Rattle.std.specs.Prelude.{◌≡◌, count_by};
     ghost use Rattle.closure_seq.specs.Worklist.{Worklist, IsSized, AreBytesOf};
 
     ghost Value = { Worklist };
@@ -33,7 +35,8 @@ impl Model for PairSets {
 
     ghost invariant = { λ a.
         IsSized (record { nodes = a.nodes; planes = a.planes; sets = a.sets.items; queued = a.queued.items })
-        × AreBytesOf (record { nodes = a.nodes; planes = a.planes; sets = a.sets.items; queued = a.queued.items }) a.bytes.items };
+        × AreBytesOf (record { nodes = a.nodes; planes = a.planes; sets = a.sets.items; queued = a.queued.items }) a.bytes.items
+        × (a.waiting ≡ count_by (λ b. b) a.queued.items) };
 }
 
 impl PairSets {
@@ -58,6 +61,7 @@ impl PairSets {
             sets,
             bytes,
             queued,
+            waiting: 0,
             order,
             taken: 0,
         })
@@ -70,6 +74,13 @@ impl PairSets {
         ensures sized { IsSized self.now }
     {
         self.nodes
+    }
+
+    /// The number of planes.
+    pub(crate) fn planes(&self) -> usize
+        ensures { result ≡ self.now.planes }
+    {
+        self.planes
     }
 
     /// The set of the pair `(i, j)`.
@@ -126,7 +137,9 @@ impl PairSets {
     {
         let _ = &self.nodes;
         let (low, high) = if i < j { (i, j) } else { (j, i) };
-        self.queued[(256 * low + high) as usize] = true;
+        let place = (256 * low + high) as usize;
+        self.waiting += if self.queued[place] { 0 } else { 1 };
+        self.queued[place] = true;
         self.order.put(low, high, members);
     }
 
@@ -201,7 +214,11 @@ impl PairSets {
         ensures sized { IsSized self.old }
     {
         let _ = &self.nodes;
+        if self.waiting == 0 {
+            return None;
+        }
         let (i, j) = self.next_queued()?;
+        self.waiting -= 1;
         self.queued[(256 * i + j) as usize] = false;
         self.taken = self.taken.wrapping_add(1);
         Some((i, j))
@@ -213,13 +230,15 @@ impl PairSets {
         self.taken
     }
 
-    /// Takes every edge off the queue. Where the order proposes none, none is queued.
+    /// Takes every edge off the queue.
     pub(crate) fn clear(&mut self)
-        ensures { self.new ≡ record self.old { queued = self.new.queued } }
+        ensures rest { self.new ≡ record self.old { queued = self.new.queued } }
+        ensures idle { (i : ℕ) → i < self.new.nodes → IsIdle self.new i }
     {
-        if self.order.is_empty() {
+        if self.waiting == 0 && self.order.is_empty() {
             return;
         }
+        self.waiting = 0;
         self.queued.fill(false);
         self.order.clear();
     }

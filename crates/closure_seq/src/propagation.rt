@@ -31,8 +31,34 @@ use compose_fast::{Tables, without};
 #[derive(Clone, Copy, Debug, PartialEq, Eq)]
 pub(crate) struct Emptied;
 
+/// Sets the set of `(i, k)`, and with it that of `(k, i)`.
+pub(crate) fn put_pair<C: Compose, const P: usize>(
+    work: &mut PairSets,
+    c: &C,
+    i: u32,
+    k: u32,
+    rel: Rel,
+)
+    requires planes { work.old.planes ≡ P }
+    requires proper { IsProperPair work.old.nodes i k }
+    requires within { IsWithin rel (full_of (C.algebra c.now)) }
+    ensures value { work.new ≡ record work.old {
+      sets = with_pair work.old.sets i k rel (converse (C.algebra c.now) rel);
+    } }
+    ensures sized { IsSized work.old }
+{
+    work.put::<P>(i, k, rel);
+    work.put::<P>(k, i, c.converse(rel));
+}
+
 /// Sets the set of `(i, k)`, and with it that of `(k, i)`, and queues their edge.
-fn refine<C: Compose, const P: usize>(work: &mut PairSets, c: &C, i: u32, k: u32, rel: Rel)
+pub(crate) fn refine<C: Compose, const P: usize>(
+    work: &mut PairSets,
+    c: &C,
+    i: u32,
+    k: u32,
+    rel: Rel,
+)
     requires planes { work.old.planes ≡ P }
     requires proper { IsProperPair work.old.nodes i k }
     requires within { IsWithin rel (full_of (C.algebra c.now)) }
@@ -42,8 +68,7 @@ fn refine<C: Compose, const P: usize>(work: &mut PairSets, c: &C, i: u32, k: u32
     } }
     ensures sized { IsSized work.old }
 {
-    work.put::<P>(i, k, rel);
-    work.put::<P>(k, i, c.converse(rel));
+    put_pair::<C, P>(work, c, i, k, rel);
     work.push(i, k, rel.count());
 }
 
@@ -184,7 +209,7 @@ fn propagate_from<C: Compose, const P: usize>(
 }
 
 /// Narrows along the edge between `i` and `j`, both ways.
-fn propagate<C: Compose, const P: usize>(
+pub(crate) fn propagate<C: Compose, const P: usize>(
     work: &mut PairSets,
     tables: &mut Tables,
     c: &C,

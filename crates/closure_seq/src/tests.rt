@@ -1,4 +1,4 @@
-ghost use Rattle.std.specs.Prelude.{◌≡◌, IsTrue, IfOk};
+ghost use Rattle.std.specs.Prelude.{◌≡◌, ◌<◌, IsTrue, IfOk};
 ghost use Rattle.network_words.specs.Network.{IsNetwork};
 
 use super::*;
@@ -113,9 +113,147 @@ fn looks_at_few_edges_more_than_once(rt: HostRuntime) -> Result<(), Fail> {
     Ok(())
 }
 
+/// A number below `bound`, of a row that looks random (Marsaglia 2003).
+fn random(state: &mut u64, bound: u32) -> u32
+    requires { 0 < bound }
+    ensures { result < bound }
+{
+    *state ^= *state << 13;
+    *state ^= *state >> 7;
+    *state ^= *state << 17;
+    (*state % u64::from(bound)) as u32
+}
+
+/// A network of so many nodes, in which one edge of four has a random set, the others all base relations.
+fn random_net<C: Compose>(
+    rt: &impl Abort,
+    alloc: Global,
+    c: &C,
+    nodes: u32,
+    state: &mut u64,
+) -> Result<Net, Fail> {
+    let mut net = Net::new(alloc, nodes, c.full())?;
+    for edge in 0..net.edges() {
+        assert!(rt; edge < net.edges());
+        if random(state, 4) == 0 {
+            let rel = Rel::of(*state).meet(c.full());
+            net.set(edge, if rel.is_empty() { c.full() } else { rel });
+        }
+    }
+    Ok(net)
+}
+
+/// Fails unless the top of the path has the sets of `net`, and is told to be empty where it is.
+fn assert_top(rt: &impl Abort, path: &ClosedPath, net: &Net) {
+    assert!(rt; path.nodes() == net.nodes());
+    let mut empty = false;
+    for edge in 0..net.edges() {
+        assert!(rt; edge < net.edges() && edge < path.edges());
+        assert_eq!(rt;
+            path.word(edge),
+            net.word(edge),
+            "of edge {edge} among {} nodes",
+            net.nodes()
+        );
+        empty |= net.word(edge).is_empty();
+    }
+    assert_eq!(rt; path.is_empty(), empty);
+}
+
+/// Fails unless the changes of the top, undone from the last to the first, lead from the sets of `net` to those of `below`.
+fn assert_changes(rt: &impl Abort, path: &ClosedPath, mut net: Net, below: &Net) {
+    assert!(rt; !path.is_first() && !path.is_empty());
+    for change in path.changes().iter().rev() {
+        assert!(rt; change.edge < net.edges());
+        net.set(change.edge, change.old);
+    }
+    assert_eq!(rt; net.words(), below.words());
+}
+
+/// Narrows a random edge of the path to a random part of its set, and closes a copy of `top`, its top, with that set anew.
+/// Returns the copy.
+fn narrow_both<C: Compose>(
+    rt: &impl Abort,
+    alloc: Global,
+    c: &C,
+    path: &mut ClosedPath,
+    top: &Net,
+    state: &mut u64,
+) -> Result<Net, Fail> {
+    let edges = path.edges();
+    assert!(rt; 0 < edges && edges == top.edges());
+    let edge = random(state, edges);
+    let rel = path.word(edge).meet(Rel::of(*state));
+    assert!(rt; rel.within(path.word(edge)));
+    path.narrow(edge, rel)?;
+    let mut next = top.copy()?;
+    assert!(rt; edge < next.edges());
+    next.set(edge, rel);
+    assert!(rt; is_network(&next, c));
+    close(alloc, &mut next, c)?;
+    Ok(next)
+}
+
+/// Walks up and down a path at random, and closes each level anew beside it. Returns whether a level had an empty set.
+fn walk<C: Compose>(
+    rt: &impl Abort,
+    alloc: Global,
+    c: &C,
+    nodes: u32,
+    steps: u32,
+    state: &mut u64,
+) -> Result<bool, Fail> {
+    let mut top = random_net(rt, alloc, c, nodes, state)?;
+    assert!(rt; is_network(&top, c));
+    let mut path = ClosedPath::new(alloc, &top, c)?;
+    close(alloc, &mut top, c)?;
+    let mut below = Vec::new(alloc);
+    let mut emptied = false;
+    for _ in 0..steps {
+        if random(state, 5) < 2
+            && !path.is_first()
+            && let Some(last) = below.pop()
+        {
+            path.back();
+            top = last;
+        } else {
+            let next = narrow_both(rt, alloc, c, &mut path, &top, state)?;
+            if path.is_empty() {
+                emptied = true;
+            } else {
+                assert_changes(rt, &path, next.copy()?, &top);
+            }
+            below.push(top)?;
+            top = next;
+        }
+        assert_top(rt, &path, &top);
+    }
+    Ok(emptied)
+}
+
+#[test]
+fn paths_are_what_closing_anew_says(rt: HostRuntime) -> Result<(), Fail> {
+    let alloc = rt.alloc();
+    let regions = rcc8(alloc)?;
+    let intervals = allen(alloc)?;
+    let points = point(alloc)?;
+    let mut state = 88_172_645_463_325_252;
+    let mut emptied = false;
+    for nodes in [2, 3, 4, 5, 7, 15, 16, 17, 18, 33] {
+        for _ in 0..4 {
+            emptied |= walk(&rt, alloc, &regions, nodes, 24, &mut state)?;
+            emptied |= walk(&rt, alloc, &intervals, nodes, 24, &mut state)?;
+            emptied |= walk(&rt, alloc, &points, nodes, 24, &mut state)?;
+        }
+    }
+    assert!(rt; emptied);
+    Ok(())
+}
+
 fn is_send<T: Send>() {}
 
 #[test]
-fn room_goes_to_other_threads() {
+fn room_and_paths_go_to_other_threads() {
     is_send::<Work>();
+    is_send::<ClosedPath>();
 }

@@ -53,7 +53,7 @@ seen-network m nodes full a e p = AreSets-network m nodes full a.seen e p.seen
 
 -- ---- what a pass has seen of a pair
 
--- the word of the edge, turned where the pair is the other way round
+-- the word of the edge, or its converse where the pair is the other way round
 pub relation_between-oriented : (m : Algebra) (n : ℕ) (words : List ℕ) (i j : ℕ) → relation_between m n words i j ≡ oriented m i j (slice_index words (edge_between n i j))
 relation_between-oriented m n words i j =
     elim (nat_lt i j) as (λ t. cond t (slice_index words (edge_at n i j)) (converse m (slice_index words (edge_at n j i)))
@@ -71,7 +71,7 @@ pub seen-less : (m : Algebra) (n : ℕ) (seen : List ℕ) (e x i j : ℕ) →
     IsWithin (relation_between m n (slice_set seen e (bit_and (slice_index seen e) x)) i j) (relation_between m n seen i j)
 seen-less m n seen e x i j = relation_between-mono m n (slice_set seen e (bit_and (slice_index seen e) x)) seen i j (seen-within seen e x)
 
--- a set that was turned and is turned back is within what it was
+-- what is within a set as the edge has it is within the set, as the pair has it
 pub oriented-within : (m : Algebra) (i j x y : ℕ) → IsCalculus m → IsWithin x (full_of m) → IsWithin y (oriented m i j x) → IsWithin (oriented m i j y) x
 oriented-within m i j x y c f w = elim (cases_lt i j) [
   | inl h ↦ rw (ap (λ t. cond t y (converse m y)) (lt-ltb i j h)) (rw (ap (λ t. cond t x (converse m x)) (lt-ltb i j h)) at w)
@@ -159,13 +159,13 @@ Narrows-closed m n i j k along word old new c t' nodes r a full shown' w =
     subst (λ x. IsWithin x (composition m (seen_between m new i j) (seen_between m new j k))) (sym here)
     (subst (IsWithin (oriented m i k word)) there (oriented-within m i k along word c full w))
 
--- ---- sets turned
+-- ---- sets as edges have them
 
 pub oriented-injective : (m : Algebra) (i j x y : ℕ) → IsCalculus m → IsWithin x (full_of m) → IsWithin y (full_of m) → oriented m i j x ≡ oriented m i j y → x ≡ y
 oriented-injective m i j x y c p q e = elim (cases_lt i j) [
   | inl h ↦ sym (ap (λ t. cond t x (converse m x)) (lt-ltb i j h)) ∙ e ∙ ap (λ t. cond t y (converse m y)) (lt-ltb i j h)
-  | inr h ↦ (let turned : converse m x ≡ converse m y = sym (ap (λ t. cond t x (converse m x)) (le-ltb i j h)) ∙ e ∙ ap (λ t. cond t y (converse m y)) (le-ltb i j h) in
-      sym (converse-converse m x c p) ∙ ap (converse m) turned ∙ converse-converse m y c q)
+  | inr h ↦ (let converses : converse m x ≡ converse m y = sym (ap (λ t. cond t x (converse m x)) (le-ltb i j h)) ∙ e ∙ ap (λ t. cond t y (converse m y)) (le-ltb i j h) in
+      sym (converse-converse m x c p) ∙ ap (converse m) converses ∙ converse-converse m y c q)
 ]
 
 -- another word is another relation
@@ -182,18 +182,18 @@ changed-relation m n i k word seen seen' result c net full shown changed =
 
 -- ---- what a call returns
 
--- a word that was shown, turned for the pair
+-- a word that was shown, as the pair has it
 pub shown-relation : (m : Algebra) (n n' e i j x y z : ℕ) (seen : List ℕ) → e ≡ edge_between n' i j → n ≡ n' → slice_index seen e ≡ x → z ≡ x → y ≡ oriented m i j z → y ≡ relation_between m n seen i j
-shown-relation m n n' e i j x y z seen edge nodes shown same turned =
+shown-relation m n n' e i j x y z seen edge nodes shown same as_pair =
     let at : slice_index seen (edge_between n i j) ≡ x = subst (λ k. slice_index seen (edge_between k i j) ≡ x) (sym nodes) (subst (λ d. slice_index seen d ≡ x) edge shown) in
-    turned ∙ ap (oriented m i j) same ∙ sym (relation_between-shown m n seen i j x at)
+    as_pair ∙ ap (oriented m i j) same ∙ sym (relation_between-shown m n seen i j x at)
 
--- a word that is within the operand of a set, turned for the pair, is within the set
+-- a word that is within a set as the edge has it is within the set, as the pair has it
 pub relation-within : (m : Algebra) (n n' e i j x y : ℕ) (seen : List ℕ) → IsCalculus m → IsWithin x (full_of m) → e ≡ edge_between n' i j → n ≡ n' → y ≡ oriented m i j x →
     IsWithin (slice_index seen e) y → IsWithin (relation_between m n seen i j) x
-relation-within m n n' e i j x y seen c full edge nodes turned w =
+relation-within m n n' e i j x y seen c full edge nodes as_edge w =
     let same : e ≡ edge_between n i j = edge ∙ ap (λ k. edge_between k i j) (sym nodes) in
-    let at : IsWithin (slice_index seen (edge_between n i j)) (oriented m i j x) = subst (λ d. IsWithin (slice_index seen d) (oriented m i j x)) same (subst (IsWithin (slice_index seen e)) turned w) in
+    let at : IsWithin (slice_index seen (edge_between n i j)) (oriented m i j x) = subst (λ d. IsWithin (slice_index seen d) (oriented m i j x)) same (subst (IsWithin (slice_index seen e)) as_edge w) in
     subst (λ z. IsWithin z x) (sym (relation_between-oriented m n seen i j)) (oriented-within m i j x (slice_index seen (edge_between n i j)) c full at)
 
 -- two passes joined
@@ -236,7 +236,7 @@ along-snap m n n' i j k x snap seen p q e =
     let F : ℕ → List ℕ → ℕ = λ y ws. composition m (relation_between m y ws i j) (relation_between m y ws j k) in
     e ∙ ap (λ y. F y snap) p ∙ ap (F n') q
 
--- ---- every edge read in turn
+-- ---- every edge read, one after another
 
 -- the pass has read the edges below e, and the snapshot has what it has then seen of them
 pub record IsRefreshed (old pass : PassState) (snap : List ℕ) (edges e : ℕ) : Type 0 where

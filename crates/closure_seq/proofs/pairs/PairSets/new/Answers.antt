@@ -1,5 +1,6 @@
-use Rattle.std.proofs.Common.{◌∙◌, length, ap, arith}
+use Rattle.std.proofs.Common.{◌∙◌, ◌*◌, sym, length, ap, arith, count_by}
 use Rattle.std.proofs.lemmas.List.{length-replicate}
+use Rattle.closure_seq.proofs.Places.{count-none}
 use Rattle.closure_seq.proofs.Planes.{AreBytesOf-empty}
 use Rattle.closure_seq.proofs.pairs.PairSets.new.Goals as goal
 
@@ -12,4 +13,5 @@ invariant_of-result c = (
     queued_length = ap length c.in_ok-queued.ensures ∙ length-replicate _ _;
   },
   AreBytesOf-empty _ c.in_ok-bytes.bytes.items _ (omega arith) c.in_ok-sets.ensures c.in_ok-bytes.ensures,
+  sym (ap (count_by (λ b. b)) c.in_ok-queued.ensures ∙ count-none (256 * c.args.nodes)),
 )

@@ -20,4 +20,5 @@ invariant_of-self g c =
           (AreBytesOf-put work c.self.inside.bytes.items c.put_set.new.bytes c.args.i c.args.j c.args.rel z ib jb (let size = c.put_set.auto.bytes in let was = ap length c.deref_mut.ensures.value in size ∙ was) b
           (λ p l. c.put_set.ensures.here p (omega arith))
           (λ e apart. c.put_set.ensures.elsewhere e (λ p l. apart p (omega arith)) ∙ ap (λ xs. slice_index xs e) c.deref_mut.ensures.value)),
+      c.self.invariant.2,
     )

@@ -22,10 +22,12 @@ invariant_of-self c =
               queued_length = z.queued_length;
             },
             AreBytesOf-empty _ w.fill-then-self-planes.new.self.items _ c.requires sets (bytes ∙ ap (λ (n : ℕ). replicate {A = ℕ} n 0) (bytes-len ∙ b.length_is)),
+            c.self.invariant.2,
           ))
       | else-self-planes w ↦ rw w.self-inside-is (
         record { some = z.some; bounded = z.bounded; sets_length = z.sets_length; queued_length = z.queued_length },
         AreBytesOf-fewer (record { nodes = c.self.inside.nodes; planes = c.self.inside.planes; sets = c.self.inside.sets.items; queued = c.self.inside.queued.items })
             c.self.inside.bytes.items c.args.planes w.if-self-planes.false b,
+        c.self.invariant.2,
       )
     ]
