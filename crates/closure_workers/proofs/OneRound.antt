@@ -1,0 +1,109 @@
+-- What a round does to the words.
+use Rattle.std.proofs.Common.{◌≡◌, ℕ, suc, ◌<◌, List, [], ◌∷◌, ◌++◌, length, sym, ◌∙◌, ap, subst, arith, inl, inr}
+use Rattle.std.specs.Prelude.{slice_index, sum, get_or}
+use Rattle.std.specs.List.{All, AllZip}
+use Rattle.std.proofs.lemmas.Bool.{cases_lt}
+use Rattle.std.proofs.lemmas.List.Elements.{All-nil, All-cons, All-weaker, AllZip-get_or, length_all_zip, Contains-append_left, Contains-push}
+use Rattle.calculus_table.specs.Algebra.{Algebra}
+use Rattle.calculus_table.specs.Calculus.{IsCalculus}
+use Rattle.calculus_table.specs.Rel.{IsWithin}
+use Rattle.calculus_table.specs.Composition.{composition, converse}
+use Rattle.calculus_table.proofs.Sets.{IsWithin-empty, empty-within}
+use Rattle.network_words.specs.Edge.{edge_count, edge_at}
+use Rattle.network_words.specs.Network.{Network, IsNetwork, Refines, relation_between}
+use Rattle.network_words.specs.Closure.{IsClosed, IsRangeClosed, KeepsClosed}
+use Rattle.network_words.proofs.Edges.{edge_at-lt}
+use Rattle.network_words.proofs.Networks.{Refines-antisym, relation_between-forward, relation_between-backward}
+use Rattle.network_words.proofs.Refinements.{sum-smaller, IsClosed-range}
+use Rattle.network_words.proofs.Scenarios.{converse-empty, closed-empty}
+use Rattle.narrow_core.specs.Actor.{ActorState}
+use Rattle.edge_table.specs.Opening.{OpenState, opening_over}
+use Rattle.edge_table.specs.Passes.{AreClosedWords}
+use Rattle.closure_workers.specs.declared.pieces.Piece.{Piece}
+use Rattle.closure_workers.specs.Slices.{HasClash}
+use Rattle.closure_workers.specs.Pieces.{HasRun, AreDealt, IsBetween}
+
+-- ---- dealing
+
+pub AreDealt-push : (pieces : List Piece) (piece : Piece) (from to : ℕ) → AreDealt pieces from → piece.from ≡ from → piece.to ≡ to → AreDealt (pieces ++ piece ∷ []) to
+AreDealt-push pieces piece from to h f t e b = elim (cases_lt e from) [
+  | inl l ↦
+      (let d = h e l in
+      record { piece = d.piece; among = Contains-append_left pieces (piece ∷ []) d.piece d.among; from = d.from; to = d.to })
+  | inr g ↦ record { piece = piece; among = Contains-push pieces piece; from = omega (arith, f); to = omega (arith, t) }
+]
+
+-- ---- what a round leaves
+
+-- where all pieces have seen just these words, they are closed
+pub IsClosed-seen : (m : Algebra) (n : ℕ) (table : OpenState) (pieces ran : List Piece) (words : List ℕ) → IsCalculus m → IsNetwork m n words → table.opening.nodes ≡ n →
+    AreDealt pieces (edge_count n) → AllZip (HasRun m table) pieces ran → ¬ HasClash n words → All (λ p. p.snap ≡ words) ran → IsClosed m n words
+IsClosed-seen m n table pieces ran words c net nodes dealt run none all = IsClosed-range m n words c net (record {
+  each = λ i k o b f t j triple.
+      let d = dealt (edge_at n i k) (edge_at-lt n i k o b) in
+      let place = d.among.0 in
+      let q = get_or ran place d.piece in
+      let h : HasRun m table d.piece q = subst (λ p. HasRun m table p q) d.among.2 (AllZip-get_or (HasRun m table) pieces ran place d.piece d.piece run d.among.1) in
+      let below : place < length ran = (let l = length_all_zip (HasRun m table) pieces ran run in let e = d.among.1 in omega arith) in
+      let same : q.snap ≡ words = all place d.piece below in
+      elim h.closed [
+        | inl r ↦ (subst (λ (ws : List ℕ). IsRangeClosed m n ws d.piece.from d.piece.to) same (subst (λ x. IsRangeClosed m x q.snap d.piece.from d.piece.to) nodes r)).each i k o b d.from d.to j triple
+        | inr clash ↦ absurd (none (subst (λ (ws : List ℕ). HasClash n ws) same (subst (λ x. HasClash x q.snap) nodes clash)))
+      ];
+})
+
+-- where some worker has seen other words, the sum of the words is less
+pub sum-round : (old new : List ℕ) (snaps : List (List ℕ)) → length new ≡ length old → Refines new old → All (IsBetween new old) snaps → ¬ All (λ s. s ≡ new) snaps → sum new < sum old
+sum-round old new snaps l w between none = sum-smaller new old l w (λ same. none
+    (All-weaker (IsBetween new old) (λ s. s ≡ new) (λ s b. Refines-antisym s new (b.length_is ∙ sym l) (subst (Refines s) (sym same) b.within) b.contains) snaps between))
+
+-- a table closed with a pass that has stated nothing
+pub KeepsClosed-round : (m : Algebra) (net : Network) (weight : ℕ) (a : ActorState) (words : List ℕ) → IsNetwork m net.nodes net.words → a.mine ≡ [] →
+    AreClosedWords (opening_over net weight m) a words → KeepsClosed m net.nodes net.words words
+KeepsClosed-round m net weight a words n none h = record {
+  length_is = h.network.length_is ∙ sym n.length_is;
+  within = h.opening;
+  kept = λ other o closed w. h.kept other o closed w (rw none (λ k d b. absurd (omega arith)));
+}
+
+-- ---- an empty set
+
+none-between : (m : Algebra) (n : ℕ) (words : List ℕ) (i k : ℕ) → ((e : ℕ) → slice_index words e ≡ 0) → relation_between m n words i k ≡ 0
+none-between m n words i k z = elim (cases_lt i k) [
+  | inl h ↦ relation_between-forward m n words i k h ∙ z (edge_at n i k)
+  | inr h ↦ relation_between-backward m n words i k h ∙ ap (converse m) (z (edge_at n k i)) ∙ converse-empty m
+]
+
+pub IsClosed-empty : (m : Algebra) (n : ℕ) (words : List ℕ) → ((e : ℕ) → slice_index words e ≡ 0) → IsClosed m n words
+IsClosed-empty m n words z = record {
+  each = λ i j k t. subst (λ y. IsWithin y (composition m (relation_between m n words i j) (relation_between m n words j k))) (sym (none-between m n words i k z)) (IsWithin-empty _);
+}
+
+-- where a set is empty, all sets may be made empty
+pub KeepsClosed-empty : (m : Algebra) (n : ℕ) (old words empty : List ℕ) → IsCalculus m → IsNetwork m n words → KeepsClosed m n old words → HasClash n words →
+    length empty ≡ length words → ((e : ℕ) → slice_index empty e ≡ 0) → KeepsClosed m n old empty
+KeepsClosed-empty m n old words empty c net k clash l z = record {
+  length_is = l ∙ k.length_is;
+  within = record { each = λ e. subst (λ y. IsWithin y (slice_index old e)) (sym (z e)) (IsWithin-empty _) };
+  kept = λ other o closed w.
+      let inside = k.kept other o closed w in
+      let at : slice_index other clash.edge ≡ 0 = empty-within _ (subst (IsWithin (slice_index other clash.edge)) clash.empty (inside.each clash.edge)) in
+      let below : clash.edge < edge_count n = (let b = clash.below in let s = net.length_is in omega arith) in
+      record { each = λ e. subst (λ y. IsWithin y (slice_index empty e)) (sym (closed-empty m n clash.edge other c o closed below at e)) (IsWithin-empty _) };
+}
+
+-- ---- one by one
+
+-- what holds of the elements at each place holds of the lists
+pub AllZip-from_each : {X : Type 0} (R : X → X → Type 0) (xs ys : List X) → length xs ≡ length ys → ((i : ℕ) (d e : X) → i < length xs → R (get_or xs i d) (get_or ys i e)) → AllZip R xs ys
+AllZip-from_each R [] [] l h = tt
+AllZip-from_each R [] (y ∷ ys) l h = absurd (omega arith)
+AllZip-from_each R (x ∷ xs) [] l h = absurd (omega arith)
+AllZip-from_each R (x ∷ xs) (y ∷ ys) l h = (h 0 x y (omega arith), AllZip-from_each R xs ys (omega arith) (λ i d e b. h (suc i) d e (omega arith)))
+
+-- what each pair of elements tells of the second one
+pub All-second : {X : Type 0} (R : X → X → Type 0) (P : X → Type 0) (xs ys : List X) → AllZip R xs ys → ((x y : X) → R x y → P y) → All P ys
+All-second R P [] [] z f = All-nil P
+All-second R P [] (y ∷ ys) z f = absurd z
+All-second R P (x ∷ xs) [] z f = absurd z
+All-second R P (x ∷ xs) (y ∷ ys) z f = All-cons P y ys (f x y z.0) (All-second R P xs ys z.1 f)

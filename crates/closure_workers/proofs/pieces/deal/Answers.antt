@@ -1,0 +1,37 @@
+use Rattle.std.proofs.Common.{◌≡◌, ◌+◌, ◌-◌, ◌/◌, ◌++◌, ◌∷◌, [], List, length, ap, sym, subst, ◌∙◌, arith, length-append}
+use Rattle.std.specs.List.{All}
+use Rattle.std.proofs.Math.Nat.{div-le_self}
+use Rattle.std.proofs.lemmas.List.Elements.{All-push}
+use Rattle.narrow_core.specs.Actor.{ActorState, fresh, giving}
+use Rattle.closure_workers.specs.declared.pieces.Piece.{Piece}
+use Rattle.closure_workers.specs.Pieces.{IsPieceOf, AreDealt}
+use Rattle.closure_workers.proofs.OneRound.{AreDealt-push}
+use Rattle.closure_workers.proofs.pieces.deal.Goals as goal
+
+pub overflow_add-to : goal.overflow_add-to
+overflow_add-to c =
+    let part = div-le_self (c.args.edges - c.loop-number.from) (c.args.count - c.loop-number.number) in
+    let below = c.loop-number.invariant.below in
+    let edges = c.requires.edges in
+    let fits = c.ranges.edges.fits in
+    omega arith
+
+pub loop-number-preserved : goal.loop-number-preserved
+loop-number-preserved c =
+    let h = c.loop-number.invariant in
+    let table = c.args.table.now in
+    let number = c.loop-number.number in
+    let from = c.loop-number.from in
+    let to = from + (c.args.edges - from) / (c.args.count - number) in
+    let piece = c.in_ok-piece.piece in
+    let old = c.loop-number.pieces.items in
+    let items : c.push.new.self.items ≡ old ++ piece ∷ [] = c.in-Ok.ensures.items in
+    record {
+      pass = c.split-kept.ensures.passes.0;
+      actor = c.split-kept.ensures.first ∙ ap (λ (a : ActorState). giving 1 a) h.actor ∙ ap (λ w. fresh w table.opening.words) (let t = c.loop-number-test.true in omega arith);
+      pieces = subst (λ (ps : List Piece). All (IsPieceOf table) ps) (sym items) (All-push (IsPieceOf table) old piece h.pieces c.in_ok-piece.ensures.piece);
+      dealt = subst (λ (ps : List Piece). AreDealt ps to) (sym items) (AreDealt-push old piece from to h.dealt c.in_ok-piece.ensures.from c.in_ok-piece.ensures.to);
+      length_is = ap length items ∙ (let l = length-append old (piece ∷ []) in let k = h.length_is in omega arith);
+      below = (let part = div-le_self (c.args.edges - from) (c.args.count - number) in let b = h.below in let e = c.requires.edges in omega arith);
+      end = λ last. (let one : c.args.count - number ≡ 1 = omega arith in let b = h.below in let e = c.requires.edges in rw one (omega arith));
+    }

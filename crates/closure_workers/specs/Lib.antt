@@ -1,0 +1,10 @@
+pub mod Slices
+pub mod Pieces
+pub use Rattle.calculus_table.specs.Rel
+pub use Rattle.calculus_table.specs.Algebra
+pub use Rattle.calculus_table.specs.Composition
+pub use Rattle.calculus_table.specs.Calculus
+pub use Rattle.network_words.specs.Edge
+pub use Rattle.network_words.specs.Network
+pub use Rattle.network_words.specs.Closure
+pub use Rattle.narrow_core.specs.Actor

@@ -1,0 +1,50 @@
+-- The pieces of a round: each worker has a pass, a snapshot and a slice.
+use Rattle.std.specs.Prelude.{◌≡◌, ℕ, ◌<◌, ◌≤◌, ◌^◌, List, [], length}
+use Rattle.std.specs.List.{All, Contains}
+use Rattle.calculus_table.specs.Algebra.{Algebra}
+use Rattle.network_words.specs.Edge.{edge_count}
+use Rattle.network_words.specs.Network.{Refines}
+use Rattle.network_words.specs.Closure.{IsClosed}
+use Rattle.edge_table.specs.Opening.{OpenState, IsPassOf}
+use Rattle.closure_workers.specs.declared.pieces.Piece.{Piece}
+use Rattle.closure_workers.specs.Slices.{HasClash, IsSliceClosed}
+
+-- a piece of a table: its pass has one part of the weight, has stated nothing and has seen no more than the opening
+pub record IsPieceOf (table : OpenState) (piece : Piece) : Type 0 where
+  pub pass : IsPassOf table piece.pass
+  pub weight : piece.pass.actor.weight ≡ 1
+  pub facts : piece.pass.actor.mine ≡ []
+  pub opening : Refines piece.pass.actor.seen table.opening.words
+  pub size : length piece.snap ≡ edge_count table.opening.nodes
+  pub order : piece.from ≤ piece.to
+  pub below : piece.to ≤ edge_count table.opening.nodes
+  pub few : piece.number < 2 ^ 31
+
+-- the piece after its work: it has seen its slice closed
+pub record HasRun (m : Algebra) (table : OpenState) (old new : Piece) : Type 0 where
+  pub piece : IsPieceOf table new
+  pub from : new.from ≡ old.from
+  pub to : new.to ≡ old.to
+  pub snap : new.snap ≡ new.pass.actor.seen
+  pub closed : IsSliceClosed m table.opening.nodes new.snap old.from old.to
+
+-- the edge lies in the slice of one of the pieces
+pub record IsDealt (pieces : List Piece) (edge : ℕ) : Type 0 where
+  pub piece : Piece
+  pub among : Contains pieces piece
+  pub from : piece.from ≤ edge
+  pub to : edge < piece.to
+
+-- each edge with a number below `edges` does
+abbrev pub AreDealt : List Piece → ℕ → Type 0
+AreDealt pieces edges = (e : ℕ) → e < edges → IsDealt pieces e
+
+-- the words lie between those two lists
+pub record IsBetween (low high words : List ℕ) : Type 0 where
+  pub length_is : length words ≡ length high
+  pub within : Refines words high
+  pub contains : Refines low words
+
+-- where every snapshot has just these words, and no set is empty, they are closed
+abbrev pub AreClosedIfSeen : Algebra → ℕ → List ℕ → List (List ℕ) → Type 0
+AreClosedIfSeen m n words snaps = ¬ HasClash n words → All (λ s. s ≡ words) snaps → IsClosed m n words

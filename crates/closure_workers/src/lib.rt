@@ -1,0 +1,11 @@
+//! Algebraic closure by several workers at once.
+#![tactic(auto)]
+
+mod pieces;
+mod rounds;
+mod slices;
+#[cfg(test)]
+mod tests;
+
+pub use rounds::close_parallel;
+pub use slices::close_slice;

@@ -1,0 +1,153 @@
+//! The pieces of a round, dealt out and gathered again.
+
+ghost use Rattle.std.specs.Prelude.{◌≡◌, ℕ, ◌+◌, ◌<◌, ◌≤◌, ◌^◌, [], IfOk, List, length, vec_len, slice_index_or};
+ghost use Rattle.std.specs.List.{All};
+ghost use Rattle.calculus_table.specs.Composition.{full_of};
+ghost use Rattle.network_words.specs.Edge.{edge_count};
+ghost use Rattle.network_words.specs.Network.{Refines};
+ghost use Rattle.narrow_core.specs.Actor.{fresh};
+ghost use Rattle.edge_table.specs.Opening.{IsPassOf, algebra_of};
+ghost use Rattle.closure_workers.specs.Pieces.{IsPieceOf, HasRun, AreDealt, IsBetween};
+
+use crate::slices::close_slice;
+use calculus_table::{Compose, Memory};
+use edge_table::{OpenNet, Pass, Snapshot};
+use qsr_outside::Gate;
+use std::alloc::Global;
+
+/// What one worker has in a round: a pass, the words that it has seen, and its slice of the edges.
+#[derive(Drop)]
+pub(crate) struct Piece {
+    pub(crate) pass: Pass,
+    pub(crate) snap: Snapshot,
+    pub(crate) from: u32,
+    pub(crate) to: u32,
+    pub(crate) number: u32,
+}
+
+/// A piece over a slice.
+fn piece_of(
+    alloc: Global,
+    table: &OpenNet,
+    pass: Pass,
+    edges: u32,
+    from: u32,
+    to: u32,
+    number: u32,
+) -> Result<Piece, Memory>
+    requires pass { IsPassOf table.now pass }
+    requires actor { pass.actor ≡ fresh 1 table.now.opening.words }
+    requires edges { edges ≡ edge_count table.now.opening.nodes }
+    requires order { from ≤ to }
+    requires below { to ≤ edges }
+    requires few { number < 2 ^ 31 }
+    ensures piece { IfOk result (λ piece. IsPieceOf table.now piece) }
+    ensures from { IfOk result (λ piece. piece.from ≡ from) }
+    ensures to { IfOk result (λ piece. piece.to ≡ to) }
+{
+    let snap = Snapshot::new(alloc, edges)?;
+    Ok(Piece {
+        pass,
+        snap,
+        from,
+        to,
+        number,
+    })
+}
+
+/// Deals the edges out among so many pieces, each with a part of the pass. Returns what is left of the pass.
+pub(crate) fn deal(
+    alloc: Global,
+    table: &OpenNet,
+    pass: Pass,
+    edges: u32,
+    count: u32,
+) -> Result<(Pass, Vec<Piece>), Memory>
+    requires pass { IsPassOf table.now pass }
+    requires actor { pass.actor ≡ fresh (count + 1) table.now.opening.words }
+    requires edges { edges ≡ edge_count table.now.opening.nodes }
+    requires some { 0 < count }
+    requires few { count < 2 ^ 31 }
+    ensures pass { IfOk result (λ r. IsPassOf table.now r.0) }
+    ensures actor { IfOk result (λ r. r.0.actor ≡ fresh 1 table.now.opening.words) }
+    ensures pieces { IfOk result (λ r. All (IsPieceOf table.now) r.1.items) }
+    ensures dealt { IfOk result (λ r. AreDealt r.1.items (edge_count table.now.opening.nodes)) }
+    ensures count { IfOk result (λ r. length r.1.items ≡ count) }
+{
+    let mut pieces = Vec::new(alloc);
+    let mut rest = pass;
+    let mut from = 0;
+    for number in 0..count {
+        let to = from + (edges - from) / (count - number);
+        let (kept, given) = table.split(rest, 1);
+        rest = kept;
+        let piece = piece_of(alloc, table, given, edges, from, to, number)?;
+        let Ok(()) = pieces.push(piece) else {
+            return Err(Memory);
+        };
+        from = to;
+    }
+    Ok((rest, pieces))
+}
+
+/// Closes the slice of a piece, between the two points of the gate.
+pub(crate) fn run_piece<C: Compose, G: Gate>(
+    table: &OpenNet,
+    c: &C,
+    gate: &G,
+    mut piece: Piece,
+) -> Piece
+    requires calculus { C.algebra c.now ≡ algebra_of table.now.opening }
+    requires piece { IsPieceOf table.now piece }
+    ensures { HasRun (C.algebra c.now) table.now piece result }
+{
+    gate.pass(piece.number);
+    close_slice(
+        table,
+        &mut piece.pass,
+        c,
+        piece.from,
+        piece.to,
+        &mut piece.snap,
+    );
+    gate.pass(1000 + piece.number);
+    piece
+}
+
+/// Joins the passes of the pieces to `home`, and keeps the snapshots.
+pub(crate) fn gather(
+    alloc: Global,
+    table: &OpenNet,
+    home: Pass,
+    mut pieces: Vec<Piece>,
+) -> Result<(Pass, Vec<Snapshot>), Memory>
+    requires home { IsPassOf table.now home }
+    requires weight { home.actor.weight ≡ 1 }
+    requires facts { home.actor.mine ≡ [] }
+    requires pieces { All (IsPieceOf table.now) pieces.items }
+    requires opening { length table.now.opening.words ≡ edge_count table.now.opening.nodes }
+    requires seen { All (λ piece. piece.snap ≡ piece.pass.actor.seen) pieces.items }
+    ensures pass { IfOk result (λ r. IsPassOf table.now r.0) }
+    ensures weight { IfOk result (λ r. r.0.actor.weight ≡ length pieces.items + 1) }
+    ensures facts { IfOk result (λ r. r.0.actor.mine ≡ []) }
+    ensures between { IfOk result (λ r. All (IsBetween r.0.actor.seen table.now.opening.words) r.1.items) }
+    ensures each { IfOk result (λ r. (words : List ℕ) → All (λ s. s ≡ words) r.1.items
+        → All (λ piece. piece.snap ≡ words) pieces.items) }
+{
+    let mut snaps = Vec::new(alloc);
+    let mut all = home;
+    while let Some(piece) = pieces.pop() {
+        let Piece {
+            pass,
+            snap,
+            from: _,
+            to: _,
+            number: _,
+        } = piece;
+        all = table.join(all, pass);
+        let Ok(()) = snaps.push(snap) else {
+            return Err(Memory);
+        };
+    }
+    Ok((all, snaps))
+}

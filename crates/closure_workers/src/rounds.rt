@@ -1,0 +1,172 @@
+//! Closure by rounds. In each, the edges are dealt out among the workers, which narrow the words of one table at once.
+//!
+//! Why it is right: no step of a worker loses a closed network, and words only become less. A worker ends where what
+//! it has seen is closed at each edge of its slice; that may be old. But where all workers have seen just the words
+//! that the table was closed with, these are closed at each edge, and so they are the closure. Where a word is empty
+//! and there are three nodes or more, the closure has every set empty.
+//!
+//! Why it ends: if some worker has seen other words, then some word became less in this round, since what each has
+//! seen lies between the words at the round's beginning and those at its end.
+
+ghost use Rattle.std.specs.Prelude.{◌≡◌, ℕ, ◌<◌, ◌≤◌, true, false, IfOk, OnOk, OnErr, List, length, sum, slice_index};
+ghost use Rattle.std.specs.List.{All, AllZip};
+ghost use Rattle.network_words.specs.Edge.{edge_count};
+ghost use Rattle.network_words.specs.Network.{IsNetwork};
+ghost use Rattle.network_words.specs.Closure.{IsClosed, KeepsClosed, IsClosure};
+ghost use Rattle.edge_table.specs.Opening.{algebra_of, IsPassOf};
+ghost use Rattle.closure_workers.specs.Pieces.{IsPieceOf, HasRun, IsBetween, AreClosedIfSeen};
+
+use crate::pieces::{Piece, deal, gather, run_piece};
+use crate::slices::is_clash;
+use calculus_table::{Compose, Memory, Rel, lawful};
+use compose_fast::first_difference;
+use edge_table::{OpenNet, Snapshot, open};
+use network_words::Net;
+use qsr_outside::Gate;
+use std::alloc::Global;
+use std::thread;
+use std::thread::Threads;
+
+/// Runs all pieces at once.
+fn run_pieces<R: Threads + Sync, C: Compose + Sync, G: Gate + Sync>(
+    rt: &R,
+    table: &OpenNet,
+    c: &C,
+    gate: &G,
+    pieces: Vec<Piece>,
+) -> Result<Vec<Piece>, Memory>
+    requires calculus { C.algebra c.now ≡ algebra_of table.now.opening }
+    requires pieces { All (IsPieceOf table.now) pieces.items }
+    ensures { IfOk result (λ ran. AllZip (HasRun (C.algebra c.now) table.now) pieces.items ran.items) }
+{
+    let run = |piece: Piece| -> Piece
+        requires { (C.algebra c.now ≡ algebra_of table.now.opening) × IsPieceOf table.now piece }
+        ensures { HasRun (C.algebra c.entry.now) table.entry.now piece result }
+    { run_piece(table, c, gate, piece) };
+    let Ok(ran) = thread::map_vec(rt, pieces, &run) else {
+        return Err(Memory);
+    };
+    Ok(ran)
+}
+
+/// Narrows the network by all workers at once, and returns what each has seen in the end.
+fn narrow_at_once<R: Threads + Sync, C: Compose + Sync, G: Gate + Sync>(
+    rt: &R,
+    alloc: Global,
+    net: &mut Net,
+    c: &C,
+    gate: &G,
+    count: u32,
+) -> Result<Vec<Snapshot>, Memory>
+    requires network { IsNetwork (C.algebra c.now) net.old.nodes net.old.words }
+    requires some { 0 < count }
+    requires few { count ≤ 64 }
+    ensures rest { net.new ≡ record net.old { words = net.new.words } }
+    ensures kept { OnOk result (KeepsClosed (C.algebra c.now) net.old.nodes net.old.words net.new.words) }
+    ensures between { IfOk result (λ snaps. All (IsBetween net.new.words net.old.words) snaps.items) }
+    ensures closed { IfOk result (λ snaps. AreClosedIfSeen (C.algebra c.now) net.old.nodes net.new.words snaps.items) }
+{
+    lawful(c);
+    let (table, pass) = open(alloc, net, c, count + 1)?;
+    let (home, pieces) = deal(alloc, &table, pass, net.edges(), count)?;
+    let pieces = run_pieces(rt, &table, c, gate, pieces)?;
+    let (pass, snaps) = gather(alloc, &table, home, pieces)?;
+    table.close(pass, net);
+    Ok(snaps)
+}
+
+/// Whether every snapshot has just these words.
+fn have_all_seen(snaps: &[Snapshot], words: &[u64]) -> bool
+    requires { All (λ s. length s ≡ length words.now) snaps.now }
+    ensures yes { result ≡ true → All (λ s. s ≡ words.now) snaps.now }
+    ensures no { result ≡ false → ¬ All (λ s. s ≡ words.now) snaps.now }
+{
+    for snap in snaps {
+        if first_difference(snap.words(), words).is_some() {
+            return false;
+        }
+    }
+    true
+}
+
+/// Makes every set empty.
+fn empty_all(net: &mut Net)
+    requires { length net.old.words ≡ edge_count net.old.nodes }
+    ensures rest { net.new ≡ record net.old { words = net.new.words } }
+    ensures length_is { length net.new.words ≡ length net.old.words }
+    ensures empty { (e : ℕ) → slice_index net.new.words e ≡ 0 }
+{
+    for edge in 0..net.edges() {
+        net.set(edge, Rel::EMPTY);
+    }
+}
+
+/// A round of closing. Returns whether the network is closed.
+fn round<R: Threads + Sync, C: Compose + Sync, G: Gate + Sync>(
+    rt: &R,
+    alloc: Global,
+    net: &mut Net,
+    c: &C,
+    gate: &G,
+    count: u32,
+) -> Result<bool, Memory>
+    requires network { IsNetwork (C.algebra c.now) net.old.nodes net.old.words }
+    requires some { 0 < count }
+    requires few { count ≤ 64 }
+    ensures rest { net.new ≡ record net.old { words = net.new.words } }
+    ensures kept { OnOk result (KeepsClosed (C.algebra c.now) net.old.nodes net.old.words net.new.words) }
+    ensures closed { IfOk result (λ closed. closed ≡ true → IsClosed (C.algebra c.now) net.old.nodes net.new.words) }
+    ensures less { IfOk result (λ closed. closed ≡ false → sum net.new.words < sum net.old.words) }
+{
+    lawful(c);
+    let snaps = narrow_at_once(rt, alloc, net, c, gate, count)?;
+    if is_clash(net.nodes(), net.words()) {
+        empty_all(net);
+        return Ok(true);
+    }
+    Ok(have_all_seen(&snaps, net.words()))
+}
+
+/// Closes the network by rounds. If memory runs out the network may be between what it was and its closure.
+fn close_by_rounds<R: Threads + Sync, C: Compose + Sync, G: Gate + Sync>(
+    rt: &R,
+    alloc: Global,
+    net: &mut Net,
+    c: &C,
+    gate: &G,
+    count: u32,
+) -> Result<(), Memory>
+    requires network { IsNetwork (C.algebra c.now) net.old.nodes net.old.words }
+    requires some { 0 < count }
+    requires few { count ≤ 64 }
+    ensures rest { net.new ≡ record net.old { words = net.new.words } }
+    ensures closure { OnOk result (IsClosure (C.algebra c.now) net.old.nodes net.old.words net.new.words) }
+{
+    while !round(rt, alloc, net, c, gate, count)? {}
+    Ok(())
+}
+
+/// Closes the network by so many workers at once, from 1 to 64: its sets become those of its closure, the greatest
+/// closed network within it. Its names stay. Each worker passes the point of its number of `gate` as it begins, and
+/// 1000 more as it ends, in each round. If memory runs out the network is as before.
+pub fn close_parallel<R: Threads + Sync, C: Compose + Sync, G: Gate + Sync>(
+    rt: &R,
+    alloc: Global,
+    net: &mut Net,
+    c: &C,
+    workers: u32,
+    gate: &G,
+) -> Result<(), Memory>
+    requires network { IsNetwork (C.algebra c.now) net.old.nodes net.old.words }
+    requires some { 0 < workers }
+    requires few { workers ≤ 64 }
+    ensures closure { OnOk result (IsClosure (C.algebra c.now) net.old.nodes net.old.words net.new.words) }
+    ensures rest { OnOk result (net.new ≡ record net.old { words = net.new.words }) }
+    ensures memory { OnErr result (net.new ≡ net.old) }
+{
+    let mut closed = net.copy()?;
+    let count = workers.min(net.edges()).max(1);
+    close_by_rounds(rt, alloc, &mut closed, c, gate, count)?;
+    *net = closed;
+    Ok(())
+}

@@ -1,0 +1,227 @@
+//! Networks closed by several workers, beside the same closed on one thread.
+ghost use Rattle.std.specs.Prelude.{◌≡◌, ◌<◌, ◌≤◌, IsTrue, IfOk};
+ghost use Rattle.network_words.specs.Network.{IsNetwork};
+
+use super::*;
+use calculus_builtin::{allen, point, rcc8};
+use calculus_table::{Compose, Rel};
+use closure_seq::close;
+use compose_fast::Fast;
+use network_words::Net;
+use qsr_outside::{Gate, NoGate};
+use std::alloc::Global;
+use std::process::Abort;
+use std::sync::atomic::{AtomicU64, Ordering};
+use std::test::Fail;
+use std::thread::Threads;
+
+fn is_network<C: Compose>(net: &Net, c: &C) -> bool
+    ensures { IsTrue result → IsNetwork (C.algebra c.now) net.now.nodes net.now.words }
+{
+    let _nodes = net.nodes();
+    let full = c.full();
+    for word in net.words() {
+        if !Rel::of(*word).within(full) {
+            return false;
+        }
+    }
+    true
+}
+
+/// The next number of a row that looks random (Knuth's linear congruence).
+fn next(seed: u64) -> u64 {
+    seed.wrapping_mul(6_364_136_223_846_793_005)
+        .wrapping_add(1_442_695_040_888_963_407)
+}
+
+/// A network in which about one edge in `sparse` has a random set, and the others are full.
+fn random_network<C: Compose>(
+    alloc: Global,
+    c: &C,
+    nodes: u32,
+    sparse: u64,
+    start: u64,
+) -> Result<Net, Fail>
+    requires { 0 < sparse }
+{
+    let mut net = Net::new(alloc, nodes, c.full())?;
+    let mut seed = start;
+    for edge in 0..net.edges() {
+        seed = next(seed);
+        let word = seed >> 20;
+        if seed >> 40 & 1023 < 1024 / sparse {
+            set_within(&mut net, c, edge, word);
+        }
+    }
+    Ok(net)
+}
+
+/// Sets the set of an edge to the relations of the word that the calculus has, if the edge is there.
+fn set_within<C: Compose>(net: &mut Net, c: &C, edge: u32, word: u64) {
+    if edge < net.edges() {
+        net.set(edge, Rel::of(word).meet(c.full()));
+    }
+}
+
+/// Closes the network by each number of workers and on one thread, and fails unless all are the same.
+fn assert_same<R: Threads + Sync + Abort, C: Compose + Sync>(
+    rt: &R,
+    alloc: Global,
+    c: &C,
+    net: &Net,
+) -> Result<(), Fail> {
+    let mut expected = net.copy()?;
+    assert!(rt; is_network(&expected, c));
+    close(alloc, &mut expected, c)?;
+    for workers in [1, 2, 3, 4, 17, 64] {
+        let mut found = net.copy()?;
+        assert!(rt; is_network(&found, c) && 0 < workers && workers <= 64);
+        close_parallel(rt, alloc, &mut found, c, workers, &NoGate)?;
+        assert_eq!(rt; found.words(), expected.words(), "by {workers} workers");
+    }
+    Ok(())
+}
+
+/// Closes random networks of one calculus.
+fn assert_closures<R: Threads + Sync + Abort, C: Compose + Sync>(
+    rt: &R,
+    alloc: Global,
+    c: &C,
+) -> Result<(), Fail> {
+    for nodes in [1, 2, 3, 4, 5, 7, 10] {
+        for sparse in 1..6 {
+            let net = random_network(alloc, c, nodes, sparse, u64::from(nodes) * 1000 + sparse)?;
+            assert_same(rt, alloc, c, &net)?;
+        }
+    }
+    Ok(())
+}
+
+#[test]
+fn closes_regions_as_on_one_thread(rt: HostRuntime) -> Result<(), Fail> {
+    let c = rcc8(rt.alloc())?;
+    assert_closures(&rt, rt.alloc(), &c)
+}
+
+#[test]
+fn closes_intervals_as_on_one_thread(rt: HostRuntime) -> Result<(), Fail> {
+    let intervals = allen(rt.alloc())?;
+    let c = Fast::new(rt.alloc(), &intervals)?;
+    assert_closures(&rt, rt.alloc(), &c)
+}
+
+#[test]
+fn closes_points_as_on_one_thread(rt: HostRuntime) -> Result<(), Fail> {
+    let c = point(rt.alloc())?;
+    assert_closures(&rt, rt.alloc(), &c)
+}
+
+#[test]
+fn one_empty_set_empties_all(rt: HostRuntime) -> Result<(), Fail> {
+    let c = rcc8(rt.alloc())?;
+    for nodes in [2, 3, 9] {
+        let mut net = Net::new(rt.alloc(), nodes, c.full())?;
+        set_within(&mut net, &c, 0, 0);
+        assert_same(&rt, rt.alloc(), &c, &net)?;
+        assert!(rt; is_network(&net, &c));
+        close_parallel(&rt, rt.alloc(), &mut net, &c, 2, &NoGate)?;
+        for word in net.words() {
+            assert_eq!(rt; *word, 0);
+        }
+    }
+    Ok(())
+}
+
+/// A gate that holds each of the points 0 and 1 until both were reached, for a number of turns at most.
+#[derive(Drop)]
+struct Meeting {
+    reached: AtomicU64,
+    passed: AtomicU64,
+    missed: AtomicU64,
+}
+
+impl Gate for Meeting {
+    fn pass(&self, point: u32) {
+        if point > 1 {
+            return;
+        }
+        self.reached.fetch_or(1 << point, Ordering::SeqCst);
+        for _ in 0..200_000_000u64 {
+            if self.reached.load(Ordering::SeqCst) & 3 == 3 {
+                self.passed.fetch_or(1 << point, Ordering::SeqCst);
+                return;
+            }
+        }
+        self.missed.store(1, Ordering::SeqCst);
+    }
+}
+
+#[test]
+fn pieces_meet(rt: HostRuntime) -> Result<(), Fail> {
+    let c = rcc8(rt.alloc())?;
+    let mut net = Net::new(rt.alloc(), 3, c.full())?;
+    assert!(rt; is_network(&net, &c));
+    let gate = Meeting {
+        reached: AtomicU64::new(0),
+        passed: AtomicU64::new(0),
+        missed: AtomicU64::new(0),
+    };
+    close_parallel(&rt, rt.alloc(), &mut net, &c, 2, &gate)?;
+    assert_eq!(rt; gate.passed.load(Ordering::SeqCst), 3);
+    assert_eq!(rt; gate.missed.load(Ordering::SeqCst), 0);
+    Ok(())
+}
+
+/// A gate that counts its passes, in 4 bits for each of the points below 16 and each of those from 1000 on.
+#[derive(Drop)]
+struct Counting {
+    begun: AtomicU64,
+    ended: AtomicU64,
+    others: AtomicU64,
+}
+
+impl Gate for Counting {
+    fn pass(&self, point: u32) {
+        if point < 16 {
+            self.begun.fetch_add(1 << (4 * point), Ordering::SeqCst);
+        } else if point >= 1000 && point < 1016 {
+            self.ended
+                .fetch_add(1 << (4 * (point - 1000)), Ordering::SeqCst);
+        } else {
+            self.others.fetch_add(1, Ordering::SeqCst);
+        }
+    }
+}
+
+#[test]
+fn each_piece_begins_once_and_ends_once(rt: HostRuntime) -> Result<(), Fail> {
+    let c = rcc8(rt.alloc())?;
+    // nodes, workers, and the pieces that there are, each counted once in 4 bits
+    for (nodes, workers, pieces) in [
+        (1, 5, 0x1),
+        (2, 5, 0x1),
+        (3, 2, 0x11),
+        (3, 64, 0x111),
+        (6, 4, 0x1111),
+    ] {
+        let mut net = Net::new(rt.alloc(), nodes, c.full())?;
+        assert!(rt; is_network(&net, &c));
+        let gate = Counting {
+            begun: AtomicU64::new(0),
+            ended: AtomicU64::new(0),
+            others: AtomicU64::new(0),
+        };
+        close_parallel(&rt, rt.alloc(), &mut net, &c, workers, &gate)?;
+        assert_eq!(rt; gate.begun.load(Ordering::SeqCst), pieces);
+        assert_eq!(rt; gate.ended.load(Ordering::SeqCst), pieces);
+        assert_eq!(rt; gate.others.load(Ordering::SeqCst), 0);
+    }
+    Ok(())
+}
+
+fn is_sent<T: Send>() {}
+
+#[test]
+fn pieces_go_to_other_threads() {
+    is_sent::<pieces::Piece>();
+}
