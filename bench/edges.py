@@ -9,10 +9,10 @@ table of edge words over it, and narrows each triple once by `narrow_from`, thro
 words of the network itself, by the same composition. Both have to end with the same sets. Prints one line for each network: the median
 nanoseconds of a triple, and the ratio.
 """
-import os, shutil, statistics, subprocess, sys, tempfile
+import statistics, subprocess, sys, tempfile
 
 from closure import chain, random_network
-from timing import TOP
+from timing import build_program
 
 TURNS = 11
 DEPENDS = "calculus_table calculus_builtin compose_fast network_words network_file qsr_lex edge_table narrow_core"
@@ -164,38 +164,18 @@ returns-clause-network c =
 """
 
 
-def build(folder):
-    """Proves and builds the program over copies of the crates; returns its path."""
-    crates = os.path.join(folder, "crates")
-    shutil.copytree(os.path.join(TOP, "crates"), crates, ignore=shutil.ignore_patterns("out", "must-fail"))
-    shutil.copy(os.path.join(TOP, "HANDLES"), folder)
-    with open(os.path.join(TOP, "crates.txt")) as file:
-        listed = file.read()
-    with open(os.path.join(folder, "crates.txt"), "w") as file:
-        file.write(f"{listed}edge_sweeps: {DEPENDS}\n")
-    own = os.path.join(crates, "edge_sweeps")
-    for path, text in (
-        ("src/main.rt", PROGRAM),
-        ("stdin", ""),
-        ("stdout", ""),
-        ("proofs/Lib.antt", ""),
-        ("proofs/sweep_table/Invariants.antt", SWEEP_TABLE),
-        ("proofs/sweep_words/Invariants.antt", SWEEP_WORDS),
-        ("proofs/narrow_words/Answers.antt", NARROW_WORDS),
-    ):
-        path = os.path.join(own, path)
-        os.makedirs(os.path.dirname(path), exist_ok=True)
-        with open(path, "w") as file:
-            file.write(text)
-    subprocess.run(["git", "init", "-q"], cwd=folder, check=True)
-    subprocess.run(["rt", "run"], cwd=own, stdin=subprocess.DEVNULL, check=True, capture_output=True)
-    return os.path.join(own, "out", "edge_sweeps")
+FILES = {
+    "src/main.rt": PROGRAM,
+    "proofs/sweep_table/Invariants.antt": SWEEP_TABLE,
+    "proofs/sweep_words/Invariants.antt": SWEEP_WORDS,
+    "proofs/narrow_words/Answers.antt": NARROW_WORDS,
+}
 
 
 def main():
     sizes = [int(word) for word in sys.argv[1:]] or [128]
     with tempfile.TemporaryDirectory() as folder:
-        program = build(folder)
+        program = build_program(folder, "edge_sweeps", DEPENDS, FILES)
         for nodes in sizes:
             for kind, text in (("chain", chain(nodes)), ("random, degree 12", random_network(nodes, 12, 1))):
                 runs = []

@@ -1,0 +1,294 @@
+#!/usr/bin/env python3
+"""Times a search's narrowings on a path of closed networks, beside the same done by closing copies anew.
+
+Usage: bench/path.py [NODES ..]      (default: 128)
+
+The library has no program of its own, so this writes a small one into a folder for temporary files, with copies of the crates, and has it
+proved and built there, which takes as long as proving those crates does where no check was kept. The program reads a network of regions and
+walks down and up as a search for a scenario does: it narrows an edge to its least base relation, and where a set becomes empty it goes back
+and narrows the edge to the others; where every edge has one base relation it goes back as well. It writes the steps down first. Then it takes
+the same steps on a new path, and a twentieth of them on copies that are closed anew. Both have to end with the same sets. Prints one line for
+each network: the milliseconds of all steps on the path, and the microseconds of a step on the path and on copies.
+"""
+import statistics, subprocess, sys, tempfile
+
+from closure import BASES, chain, random_network
+from timing import build_program
+
+TURNS = 7
+DEPENDS = "calculus_table calculus_builtin compose_fast network_words closure_seq"
+
+PROGRAM = """//! Walks on a path of closed networks as a search does, and on copies that are closed anew.
+//! Writes the steps, the microseconds of all of them on the path, the steps on copies and their microseconds, and whether the same sets came out.
+#![tactic(auto)]
+
+ghost use Rattle.std.specs.Prelude.{◌≡◌, ◌<◌, IsTrue};
+ghost use Rattle.network_words.specs.Network.{IsNetwork};
+
+use calculus_builtin::rcc8;
+use calculus_table::{Compose, Memory, Rel};
+use closure_seq::{ClosedPath, Work, close_with};
+use compose_fast::Fast;
+use network_words::{Net, edge_between};
+use std::alloc::Global;
+use std::io;
+use std::io::Read;
+use std::time::{Clock, Instant};
+
+/// One step of a walk.
+#[derive(Clone, Copy)]
+enum Step {
+    Narrow { edge: u32, set: u64 },
+    Back,
+}
+
+fn is_network(net: &Net, c: &Fast) -> bool
+    ensures { IsTrue result → IsNetwork c.now net.now.nodes net.now.words }
+{
+    let _nodes = net.nodes();
+    let full = c.full();
+    for word in net.words() {
+        if !Rel::of(*word).within(full) {
+            return false;
+        }
+    }
+    true
+}
+
+/// The network that the bytes tell, three by three: first the number of nodes less one, then two nodes and a set for each fact.
+fn net_of(alloc: Global, bytes: &[u8], c: &Fast) -> Option<Net> {
+    let last = u32::from(*bytes.first()?);
+    let Ok(mut net) = Net::new(alloc, last + 1, c.full()) else {
+        return None;
+    };
+    for k in 1..bytes.len() / 3 {
+        let i = u32::from(bytes[3 * k]);
+        let j = u32::from(bytes[3 * k + 1]);
+        if i < j && j < net.nodes() && net.nodes() <= 256 {
+            let edge = edge_between(net.nodes(), i, j);
+            if edge < net.edges() {
+                net.set(edge, Rel::of(u64::from(bytes[3 * k + 2])));
+            }
+        }
+    }
+    Some(net)
+}
+
+/// The first edge of more than one base relation from `from` on, or else before it.
+fn open_edge(path: &ClosedPath, from: u32) -> Option<u32> {
+    let edges = path.edges();
+    for k in 0..edges {
+        let edge = if k < edges - from.min(edges) { from.min(edges) + k } else { k };
+        if edge < edges && path.word(edge).count() > 1 {
+            return Some(edge);
+        }
+    }
+    None
+}
+
+/// Takes a step on the path, if it can be taken.
+fn take(path: &mut ClosedPath, step: Step) -> Result<(), Memory> {
+    match step {
+        Step::Narrow { edge, set } => {
+            let rel = Rel::of(set);
+            if edge < path.edges() && rel.within(path.word(edge)) {
+                path.narrow(edge, rel)?;
+            }
+        }
+        Step::Back => {
+            if !path.is_first() {
+                path.back();
+            }
+        }
+    }
+    Ok(())
+}
+
+/// The steps of a search, at most so many.
+fn steps_of(alloc: Global, path: &mut ClosedPath, count: u32) -> Result<Vec<Step>, Memory> {
+    let mut steps = Vec::new(alloc);
+    let mut splits: Vec<(u32, u64)> = Vec::new(alloc);
+    let mut from = 0;
+    for _ in 0..count {
+        let found = if path.is_empty() { None } else { open_edge(path, from) };
+        let step = if let Some(edge) = found
+            && edge < path.edges()
+        {
+            let word = path.word(edge).word();
+            let set = word & word.wrapping_neg();
+            from = edge.wrapping_mul(40_503).wrapping_add(7) % 8_128;
+            splits.push((edge, word ^ set)).map_err(|_| Memory)?;
+            Step::Narrow { edge, set }
+        } else {
+            Step::Back
+        };
+        steps.push(step).map_err(|_| Memory)?;
+        take(path, step)?;
+        if let Step::Back = step
+            && let Some((edge, set)) = splits.pop()
+        {
+            let step = Step::Narrow { edge, set };
+            steps.push(step).map_err(|_| Memory)?;
+            take(path, step)?;
+        }
+    }
+    Ok(steps)
+}
+
+/// Takes the steps on the path.
+fn walk(path: &mut ClosedPath, steps: &[Step]) -> Result<(), Memory> {
+    for step in steps {
+        take(path, *step)?;
+    }
+    Ok(())
+}
+
+/// Takes the steps on copies of the network, each closed anew. Returns the top.
+fn walk_copies(alloc: Global, net: &Net, c: &Fast, steps: &[Step]) -> Result<Net, Memory> {
+    let _nodes = net.nodes();
+    let mut work = Work::new(alloc, net.nodes())?;
+    let mut top = net.copy()?;
+    let mut below = Vec::new(alloc);
+    if is_network(&top, c) {
+        close_with(&mut top, c, &mut work);
+    }
+    for step in steps {
+        match *step {
+            Step::Narrow { edge, set } => {
+                let mut next = top.copy()?;
+                if edge < next.edges() {
+                    next.set(edge, Rel::of(set));
+                }
+                if is_network(&next, c) {
+                    close_with(&mut next, c, &mut work);
+                }
+                below.push(top).map_err(|_| Memory)?;
+                top = next;
+            }
+            Step::Back => {
+                if let Some(last) = below.pop()
+                    && last.nodes() == net.nodes()
+                {
+                    top = last;
+                }
+            }
+        }
+    }
+    Ok(top)
+}
+
+/// Whether the top of the path has the sets of the network.
+fn is_same(path: &ClosedPath, net: &Net) -> bool {
+    for edge in 0..net.edges() {
+        if edge >= path.edges() || edge >= net.edges() || path.word(edge) != net.word(edge) {
+            return false;
+        }
+    }
+    true
+}
+
+fn timed(rt: &(impl Clock + AllocGlobal), net: &Net, c: &Fast, count: u32) -> io::Result<(usize, u128, usize, u128, bool)>
+    requires { IsNetwork c.now net.now.nodes net.now.words }
+{
+    let none = Ok((0, 0, 0, 0, false));
+    let Ok(mut first) = ClosedPath::new(rt.alloc(), net, c) else {
+        return none;
+    };
+    let Ok(steps) = steps_of(rt.alloc(), &mut first, count) else {
+        return none;
+    };
+    let Ok(mut path) = ClosedPath::new(rt.alloc(), net, c) else {
+        return none;
+    };
+    let start = Instant::now(rt)?;
+    let walked = walk(&mut path, &steps);
+    let on_path = start.elapsed(rt)?.as_micros();
+    let some = &steps[..steps.len() / 20];
+    let start = Instant::now(rt)?;
+    let Ok(top) = walk_copies(rt.alloc(), net, c, some) else {
+        return none;
+    };
+    let on_copies = start.elapsed(rt)?.as_micros();
+    let Ok(mut again) = ClosedPath::new(rt.alloc(), net, c) else {
+        return none;
+    };
+    let same = walked.is_ok() && walk(&mut again, some).is_ok() && is_same(&again, &top);
+    Ok((steps.len(), on_path, some.len(), on_copies, same))
+}
+
+fn main(rt: HostRuntime) -> io::Result<()> {
+    let alloc = rt.alloc();
+    let mut bytes = Vec::new(alloc);
+    rt.stdin().read_to_end(&mut bytes)?;
+    let Ok(calculus) = rcc8(alloc) else {
+        return Ok(());
+    };
+    let Ok(fast) = Fast::new(alloc, &calculus) else {
+        return Ok(());
+    };
+    let Some(net) = net_of(alloc, &bytes, &fast) else {
+        return Ok(());
+    };
+    if !is_network(&net, &fast) {
+        return Ok(());
+    }
+    let (steps, on_path, some, on_copies, same) = timed(&rt, &net, &fast, 5267)?;
+    println!(rt; "{steps} {on_path} {some} {on_copies} {same}")
+}
+"""
+
+IS_NETWORK = """use Rattle.std.proofs.Common.{ℕ, ◌<◌, slice_index}
+use Rattle.calculus_table.specs.Rel.{IsWithin}
+use Rattle.path_walks.proofs.is_network.Given as goal
+
+abbrev pub invariant-loop-word : goal.invariant-loop-word
+invariant-loop-word l = (k : ℕ) → k < l.word-index → IsWithin (slice_index l.net.words k) l.full
+"""
+
+WALK_COPIES = """use Rattle.std.proofs.Common.{◌≡◌}
+use Rattle.path_walks.proofs.walk_copies.Given as goal
+
+abbrev pub invariant-loop-step : goal.invariant-loop-step
+invariant-loop-step l = record { room : l.work.nodes ≡ l.net.nodes; top : l.top.nodes ≡ l.net.nodes }
+"""
+
+FILES = {
+    "src/main.rt": PROGRAM,
+    "proofs/is_network/Invariants.antt": IS_NETWORK,
+    "proofs/walk_copies/Invariants.antt": WALK_COPIES,
+}
+
+
+def packed(text):
+    """The network of a text as bytes, three by three: the nodes less one, then two nodes and the set of each fact."""
+    first, *facts = text.split("\n")
+    data = [int(first.split()[1]) - 1, 0, 0]
+    for fact in facts:
+        if fact not in ("", "."):
+            i, j, *names = fact.split()
+            data += [int(i), int(j), sum(1 << BASES.index(name) for name in names if name in BASES)]
+    return bytes(data)
+
+
+def main():
+    sizes = [int(word) for word in sys.argv[1:]] or [128]
+    with tempfile.TemporaryDirectory() as folder:
+        program = build_program(folder, "path_walks", DEPENDS, FILES)
+        for nodes in sizes:
+            for kind, text in (("chain", chain(nodes)), ("random, degree 12", random_network(nodes, 12, 1))):
+                runs = []
+                for _ in range(TURNS):
+                    *counts, same = subprocess.run([program], input=packed(text), capture_output=True, check=True).stdout.decode().split()
+                    if same != "true":
+                        sys.exit(f"{kind} of {nodes}: the sets differ")
+                    runs.append([int(word) for word in counts])
+                steps, on_path, some, on_copies = (statistics.median(column) for column in zip(*runs))
+                print(
+                    f"{kind}, {nodes} nodes: {steps:.0f} steps on the path {on_path / 1000:.1f} ms, "
+                    f"a step {on_path / steps:.1f} us, on copies {on_copies / some:.0f} us",
+                    flush=True,
+                )
+
+
+if __name__ == "__main__":
+    main()
