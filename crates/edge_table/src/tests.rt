@@ -304,7 +304,42 @@ fn by_two<R: Threads + Sync>(
     table.join(first, second)
 }
 
-/// The words of a table that two threads have narrowed by the facts.
+/// Four threads state facts and narrow by them, on one table at once.
+fn by_four<R: Threads + Sync>(
+    rt: &R,
+    table: &OpenNet,
+    c: &Calculus,
+    first: (Pass, Pass),
+    second: (Pass, Pass),
+    facts: &[Fact],
+) -> Pass
+    requires first { IsPassOf table.now first.0 × IsPassOf table.now first.1 }
+    requires second { IsPassOf table.now second.0 × IsPassOf table.now second.1 }
+    requires calculus { c.now.algebra ≡ algebra_of table.now.opening }
+    ensures { IsPassOf table.now result }
+{
+    let (front, back) = facts.split_at(facts.len() / 2);
+    let (a, b) = front.split_at(front.len() / 2);
+    let (d, e) = back.split_at(back.len() / 2);
+    let (first, second) = join(
+        rt,
+        move || -> Pass
+            requires { IsPassOf table.now first.0
+                × IsPassOf table.now first.1
+                × (c.now.algebra ≡ algebra_of table.now.opening) }
+            ensures { IsPassOf table.entry.now result }
+        { by_two(rt, table, c, first, a, b) },
+        move || -> Pass
+            requires { IsPassOf table.now second.0
+                × IsPassOf table.now second.1
+                × (c.now.algebra ≡ algebra_of table.now.opening) }
+            ensures { IsPassOf table.entry.now result }
+        { by_two(rt, table, c, second, d, e) },
+    );
+    table.join(first, second)
+}
+
+/// The words of a table that four threads have narrowed by the facts.
 fn narrowed_by_threads<R: Threads + Sync>(
     rt: &R,
     alloc: Global,
@@ -313,11 +348,12 @@ fn narrowed_by_threads<R: Threads + Sync>(
 ) -> Option<Net>
     ensures { IfSome result (λ net. IsNetwork c.now.algebra net.nodes net.words) }
 {
-    let (table, pass) = opened(alloc, c, 5, 2).ok()?;
-    let passes = cut(&table, pass, 1)?;
-    let (first, second) = facts.split_at(facts.len() / 2);
-    let pass = by_two(rt, &table, c, passes, first, second);
-    closed(alloc, table, pass, 2)
+    let (table, pass) = opened(alloc, c, 5, 4).ok()?;
+    let (first, second) = cut(&table, pass, 2)?;
+    let first = cut(&table, first, 1)?;
+    let second = cut(&table, second, 1)?;
+    let pass = by_four(rt, &table, c, first, second, facts);
+    closed(alloc, table, pass, 4)
 }
 
 /// Those words, closed once more.
