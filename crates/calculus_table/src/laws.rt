@@ -1,6 +1,7 @@
 ghost use Rattle.std.specs.Prelude.{◌≡◌};
 ghost use Rattle.calculus_table.specs.Laws.{CompositionIsMonotone, ConverseIsMonotone};
-ghost use Rattle.calculus_table.specs.Laws.{CompositionDistributesLeft, CompositionDistributesRight, ConverseDistributes};
+ghost use Rattle.calculus_table.specs.Laws.{CompositionDistributesLeft, CompositionDistributesRight};
+ghost use Rattle.calculus_table.specs.Laws.{ConverseDistributes};
 ghost use Rattle.calculus_table.specs.Laws.{ConverseTurnsComposition, ConverseIsInvolution, IdentityIsNeutral};
 ghost use Rattle.calculus_table.specs.Laws.{TableFaultIsOne, CalculusHasNoFault, TableIsCalculusOrBreaksLaw};
 
@@ -18,8 +19,8 @@ pub fn laws_of_sets()
     ensures identity_is_neutral { IdentityIsNeutral }
 {}
 
-/// The laws of tables: how many base relations one may have, that it has one fault at most, and that it has one where it is
-/// no calculus.
+/// The laws of tables: how many base relations one may have, that it has one fault at most, and that it has one where
+/// it is no calculus.
 pub fn laws_of_tables()
     ensures limit { MAX_BASES ≡ 64 }
     ensures table_fault_is_one { TableFaultIsOne }

@@ -1,6 +1,6 @@
-//! Algebraic closure (Allen 1983), by propagation: the sets of the pairs are loaded, the edges whose set isn't full are queued,
-//! and when the queue is empty the sets are stored. An edge with the full set needn't be queued: the identity alone spares
-//! everything. Where a set becomes empty, so does every set of the closure.
+//! Algebraic closure (Allen 1983), by propagation: the sets of the pairs are loaded, the edges whose set isn't full
+//! are queued, and when the queue is empty the sets are stored. An edge with the full set needn't be queued: the
+//! identity alone spares everything. Where a set becomes empty, so does every set of the closure.
 
 ghost use Rattle.std.specs.Prelude.{◌≡◌, ℕ, ◌*◌, ◌<◌, ◌≤◌, length, slice_index, OnOk, OnErr};
 ghost use Rattle.network_words.specs.Edge.{edge_count};
@@ -56,8 +56,8 @@ fn close_planes<C: Compose, const P: usize>(
     }
 }
 
-/// Closes the network: its sets become those of its closure, the greatest closed network within it. Its names stay. Takes
-/// no memory.
+/// Closes the network: its sets become those of its closure, the greatest closed network within it. Its names stay.
+/// Takes no memory.
 pub fn close_with<C: Compose>(net: &mut Net, c: &C, work: &mut Work)
     requires nodes { work.old.nodes ≡ net.old.nodes }
     requires network { IsNetwork (C.algebra c.now) net.old.nodes net.old.words }

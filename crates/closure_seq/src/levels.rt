@@ -1,6 +1,6 @@
-//! Networks one above another, of which the top alone is stored: a trail keeps which sets were replaced, and a mark for each
-//! level how long the trail was when the level began. The level below is the top with the changes since the last mark undone,
-//! the last first. So a level costs what it changed, in time and in memory.
+//! Networks one above another, of which the top alone is stored: a trail keeps which sets were replaced, and a mark
+//! for each level how long the trail was when the level began. The level below is the top with the changes since the
+//! last mark undone, the last first. So a level costs what it changed, in time and in memory.
 
 ghost use Rattle.std.specs.Prelude.{◌≡◌, ◌-◌, length, slice_index};
 
@@ -60,7 +60,8 @@ fn last_mark(marks: &[usize]) -> usize
 }
 
 impl Levels {
-    ghost use Rattle.std.specs.Prelude.{◌≡◌, ◌∷◌, ◌++◌, [], ◌<◌, length, slice_index, slice_set, ◌≤◌, ◌↔◌, All, IsTrue, IfSome, IfNone, OnOk, OnErr};
+    ghost use Rattle.std.specs.Prelude.{◌≡◌, ◌∷◌, ◌++◌, [], ◌<◌, length, slice_index, slice_set, ◌≤◌, ◌↔◌};
+    ghost use Rattle.std.specs.Prelude.{All, IsTrue, IfSome, IfNone, OnOk, OnErr};
     ghost use Rattle.calculus_table.specs.Rel.{IsWithin};
     ghost use Rattle.network_words.specs.Edge.{edge_count, edge_at};
     ghost use Rattle.network_words.specs.declared.TheConstants.{MAX_NODES};

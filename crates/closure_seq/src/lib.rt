@@ -1,7 +1,8 @@
 //! Algebraic closure of networks on one thread.
 //!
 //! - [`close`] and [`close_with`] turn a network into its closure.
-//! - [`ClosedPath`] is a path of closed networks for a search: it narrows an edge and closes again, and takes that back.
+//! - [`ClosedPath`] is a path of closed networks for a search: it narrows an edge and closes again, and takes that
+//!   back.
 //!
 //! ```text
 //! let mut path = ClosedPath::new(alloc, &net, &c)?;

@@ -1,14 +1,15 @@
 //! A level above another: one edge's set made smaller, and what follows of it.
 //!
-//! The worklist has the sets of the top, and no edge is queued. The edge is queued with its smaller set and propagated from.
-//! Each edge that is taken off the queue stores its set as the word of the top, so that the words are those of the pairs but
-//! where an edge is queued, and with an empty queue everywhere.
+//! The worklist has the sets of the top, and no edge is queued. The edge is queued with its smaller set and
+//! propagated from. Each edge that is taken off the queue stores its set as the word of the top, so that the words
+//! are those of the pairs but where an edge is queued, and with an empty queue everywhere.
 //!
-//! To take a level back the changes of the top are undone, the last first, in the words and in the pairs. A level that turns
-//! out to have an empty set, or for which memory runs out, is taken back as well, after the pairs of the edges that are still
-//! queued were set to their words again. Both cost what the level changed.
+//! To take a level back the changes of the top are undone, the last first, in the words and in the pairs. A level
+//! that turns out to have an empty set, or for which memory runs out, is taken back as well, after the pairs of the
+//! edges that are still queued were set to their words again. Both cost what the level changed.
 
-ghost use Rattle.std.specs.Prelude.{◌≡◌, ℕ, ◌∷◌, ◌++◌, [], ◌<◌, true, length, slice_index, slice_set, OnOk, OnErr, IfErr};
+ghost use Rattle.std.specs.Prelude.{◌≡◌, ℕ, ◌∷◌, ◌++◌, [], ◌<◌, true, length, slice_index, slice_set, OnOk};
+ghost use Rattle.std.specs.Prelude.{OnErr, IfErr};
 ghost use Rattle.calculus_table.specs.Rel.{IsWithin};
 ghost use Rattle.calculus_table.specs.Composition.{full_of};
 ghost use Rattle.network_words.specs.Edge.{edge_count, edge_at};
@@ -182,8 +183,8 @@ fn close_level<C: Compose, const P: usize>(
     propagate_level::<C, P>(pairs, tables, c, levels)
 }
 
-/// Begins a level: the closure of the top with the set of the edge from `i` to `j` made smaller. If a set becomes empty, or
-/// memory runs out, the levels are as before.
+/// Begins a level: the closure of the top with the set of the edge from `i` to `j` made smaller. If a set becomes
+/// empty, or memory runs out, the levels are as before.
 pub(crate) fn push_level<C: Compose, const P: usize>(
     pairs: &mut PairSets,
     tables: &mut Tables,

@@ -1,9 +1,9 @@
 //! An order in which queued edges are proposed: those with the fewest base relations first, since they restrict most
-//! (van Beek and Manchak 1996). Nothing is promised of it, and nothing rests on it but the time that closing takes: who takes a
-//! proposal looks whether that edge is queued.
+//! (van Beek and Manchak 1996). Nothing is promised of it, and nothing rests on it but the time that closing takes:
+//! who takes a proposal looks whether that edge is queued.
 //!
-//! The place of an edge is `i * width + j`, where the width is the least power of two of 16 and more that the nodes fit in: so
-//! the room for few nodes is small, and a place is taken apart without a division.
+//! The place of an edge is `i * width + j`, where the width is the least power of two of 16 and more that the nodes
+//! fit in: so the room for few nodes is small, and a place is taken apart without a division.
 
 ghost use Rattle.std.specs.Prelude.{◌≡◌, ◌<◌, ◌≤◌};
 

@@ -1,10 +1,10 @@
 //! The sets of all ordered pairs of nodes, and the queue of edges whose triples are to be looked at.
 //!
-//! A set is kept twice: as a word, and as bytes in planes, which `compose_fast::Tables` reads 16 at a time. The set of a pair
-//! with itself is that of the identity, which is within every composition of a set with its converse.
+//! A set is kept twice: as a word, and as bytes in planes, which `compose_fast::Tables` reads 16 at a time. The set
+//! of a pair with itself is that of the identity, which is within every composition of a set with its converse.
 //!
-//! An edge is queued where its mark says so. The order only proposes which of them comes next; where its proposal isn't queued,
-//! the first mark is taken.
+//! An edge is queued where its mark says so. The order only proposes which of them comes next; where its proposal
+//! isn't queued, the first mark is taken.
 
 use crate::order::Order;
 use calculus_table::{Memory, Rel};
@@ -35,15 +35,19 @@ impl Model for PairSets {
 
     ghost invariant = { λ a.
         IsSized (record { nodes = a.nodes; planes = a.planes; sets = a.sets.items; queued = a.queued.items })
-        × AreBytesOf (record { nodes = a.nodes; planes = a.planes; sets = a.sets.items; queued = a.queued.items }) a.bytes.items
+        × AreBytesOf
+        (record { nodes = a.nodes; planes = a.planes; sets = a.sets.items; queued = a.queued.items })
+        a.bytes.items
         × (a.waiting ≡ count_by (λ b. b) a.queued.items) };
 }
 
 impl PairSets {
-    ghost use Rattle.std.specs.Prelude.{◌≡◌, ℕ, ◌+◌, ◌*◌, ◌<◌, ◌≤◌, ◌↔◌, true, false, IsTrue, IfOk, IfSome, IfNone, MatchOption, length, slice_set};
+    ghost use Rattle.std.specs.Prelude.{◌≡◌, ℕ, ◌+◌, ◌*◌, ◌<◌, ◌≤◌, ◌↔◌, true, false, IsTrue, IfOk, IfSome};
+    ghost use Rattle.std.specs.Prelude.{IfNone, MatchOption, length, slice_set};
     ghost use Rattle.network_words.specs.Edge.{IsProperPair};
     ghost use Rattle.network_words.specs.declared.TheConstants.{MAX_NODES};
-    ghost use Rattle.closure_seq.specs.Worklist.{Worklist, IsSized, AreBytesOf, IsWaiting, IsIdle, IsQueued, IsBegun, set_of, edge_place};
+    ghost use Rattle.closure_seq.specs.Worklist.{Worklist, IsSized, AreBytesOf, IsWaiting, IsIdle, IsQueued};
+    ghost use Rattle.closure_seq.specs.Worklist.{IsBegun, set_of, edge_place};
 
     /// Room for so many nodes.
     pub(crate) fn new(alloc: Global, nodes: u32) -> Result<PairSets, Memory>
@@ -183,7 +187,9 @@ impl PairSets {
     /// The first edge that is queued.
     #[inline(never)]
     fn first_queued(&self) -> Option<(u32, u32)>
-        ensures { MatchOption result ((i : ℕ) → i < self.now.nodes → IsIdle self.now i) (λ e. IsWaiting self.now e.0 e.1) }
+        ensures { MatchOption result
+            ((i : ℕ) → i < self.now.nodes → IsIdle self.now i)
+            (λ e. IsWaiting self.now e.0 e.1) }
     {
         let nodes = self.nodes();
         for i in 0..nodes {
@@ -197,7 +203,9 @@ impl PairSets {
     /// An edge that is queued: the one that the order proposes, or where that fails the first.
     fn next_queued(&mut self) -> Option<(u32, u32)>
         ensures same { self.new ≡ self.old }
-        ensures edge { MatchOption result ((i : ℕ) → i < self.old.nodes → IsIdle self.old i) (λ e. IsWaiting self.old e.0 e.1) }
+        ensures edge { MatchOption result
+            ((i : ℕ) → i < self.old.nodes → IsIdle self.old i)
+            (λ e. IsWaiting self.old e.0 e.1) }
     {
         if let Some(edge) = self.proposed() {
             return Some(edge);
@@ -210,7 +218,9 @@ impl PairSets {
     pub(crate) fn pop(&mut self) -> Option<(u32, u32)>
         ensures idle { IfNone result ((self.new ≡ self.old) × ((i : ℕ) → i < self.old.nodes → IsIdle self.old i)) }
         ensures queued { IfSome result (λ e. IsWaiting self.old e.0 e.1) }
-        ensures taken { IfSome result (λ e. self.new ≡ record self.old { queued = slice_set self.old.queued (edge_place e.0 e.1) false }) }
+        ensures taken { IfSome result (λ e. self.new ≡ record self.old {
+          queued = slice_set self.old.queued (edge_place e.0 e.1) false;
+        }) }
         ensures sized { IsSized self.old }
     {
         let _ = &self.nodes;

@@ -1,15 +1,15 @@
 //! Paths of closed networks, on which a search narrows edges and takes that back.
 //!
-//! The first level is the closure of a network. Each level above is the closure of the one below with the set of one edge made
-//! smaller. Closing it begins at that edge alone: in a closed network every triple is closed, and it stays so where no source
-//! became smaller (Dechter 2003 tells of search with propagation at each step).
+//! The first level is the closure of a network. Each level above is the closure of the one below with the set of one
+//! edge made smaller. Closing it begins at that edge alone: in a closed network every triple is closed, and it stays
+//! so where no source became smaller (Dechter 2003 tells of search with propagation at each step).
 //!
-//! The top alone is stored; what it replaced of the level below is kept on a trail. In a closed network with an empty set every
-//! set is empty. So a level with an empty set isn't stored: it is counted, and so is each level above it.
+//! The top alone is stored; what it replaced of the level below is kept on a trail. In a closed network with an empty
+//! set every set is empty. So a level with an empty set isn't stored: it is counted, and so is each level above it.
 //!
-//! What it costs: a level takes the time and the memory of what it changes, to begin it and to take it back. A set that a level
-//! replaces can lose base relations only as often as it has some, so all levels together keep at most as many changes as the
-//! sets of the first level have members.
+//! What it costs: a level takes the time and the memory of what it changes, to begin it and to take it back. A set
+//! that a level replaces can lose base relations only as often as it has some, so all levels together keep at most as
+//! many changes as the sets of the first level have members.
 
 ghost use Rattle.std.specs.Prelude.{◌≡◌, ℕ, ◌*◌, ◌<◌, ◌≤◌};
 ghost use Rattle.calculus_table.specs.Calculus.{IsCalculus};
@@ -96,7 +96,8 @@ fn load_planes<C: Compose>(pairs: &mut PairSets, tables: &mut Tables, net: &Net,
     }
 }
 
-/// Closed networks, each above the first the closure of the one below it with one edge's set made smaller. The last is the top.
+/// Closed networks, each above the first the closure of the one below it with one edge's set made smaller. The last
+/// is the top.
 #[derive(Debug, Drop)]
 pub struct ClosedPath {
     calculus: Fast,
@@ -125,7 +126,8 @@ impl Model for ClosedPath {
 }
 
 impl ClosedPath {
-    ghost use Rattle.std.specs.Prelude.{◌≡◌, ℕ, ◌∷◌, ◌++◌, [], ◌<◌, ◌↔◌, List, length, replicate, slice_index, slice_set, All, Contains, IsTrue, IfOk, OnOk, OnErr};
+    ghost use Rattle.std.specs.Prelude.{◌≡◌, ℕ, ◌∷◌, ◌++◌, [], ◌<◌, ◌↔◌, List, length, replicate};
+    ghost use Rattle.std.specs.Prelude.{slice_index, slice_set, All, Contains, IsTrue, IfOk, OnOk, OnErr};
     ghost use Rattle.calculus_table.specs.Rel.{IsWithin};
     ghost use Rattle.calculus_table.specs.Composition.{full_of};
     ghost use Rattle.network_words.specs.Edge.{edge_count};
@@ -202,8 +204,8 @@ impl ClosedPath {
         self.levels.set(edge)
     }
 
-    /// The sets that the top replaced, the first one first: undone from the last to the first they make the top the level below.
-    /// An edge whose set isn't among them has the same set in both.
+    /// The sets that the top replaced, the first one first: undone from the last to the first they make the top the
+    /// level below. An edge whose set isn't among them has the same set in both.
     pub fn changes(&self) -> &[Change]
         requires some { 0 < length self.now.below }
         requires not_empty { ¬ Contains self.now.top 0 }
@@ -230,7 +232,8 @@ impl ClosedPath {
         Ok(())
     }
 
-    /// Pushes a level: the closure of the top with the set of an edge made smaller. If memory runs out the path is as before.
+    /// Pushes a level: the closure of the top with the set of an edge made smaller. If memory runs out the path is as
+    /// before.
     pub fn narrow(&mut self, edge: u32, rel: Rel) -> Result<(), Memory>
         requires below { edge < edge_count self.old.nodes }
         requires within { IsWithin rel (slice_index self.old.top edge) }

@@ -1,18 +1,19 @@
-//! Propagation: what the relation of two nodes and that of a third demand of the relation between the first and the third.
+//! Propagation: what the relation of two nodes and that of a third demand of the relation between the first and the
+//! third.
 //!
-//! An edge is queued when its set becomes smaller. Taking an edge (i, j) off the queue, every set of a pair (i, k) is intersected
-//! with the composition of the sets of (i, j) and (j, k), and every set of a pair (j, k) with that of (j, i) and (i, k): PC-2 of
-//! Mackworth (1977), with whole rows of nodes k at a time.
+//! An edge is queued when its set becomes smaller. Taking an edge (i, j) off the queue, every set of a pair (i, k) is
+//! intersected with the composition of the sets of (i, j) and (j, k), and every set of a pair (j, k) with that of (j,
+//! i) and (i, k): PC-2 of Mackworth (1977), with whole rows of nodes k at a time.
 //!
-//! Why it is right: at every moment each triple (i, j, k) is *settled*: it is closed unless one of its sources, the edges of (i, j)
-//! and (j, k), is queued. A set only loses base relations that no closed network within has. So when the queue is empty the sets
-//! are closed, and they are the greatest that are.
+//! Why it is right: at every moment each triple (i, j, k) is *settled*: it is closed unless one of its sources, the
+//! edges of (i, j) and (j, k), is queued. A set only loses base relations that no closed network within has. So when
+//! the queue is empty the sets are closed, and they are the greatest that are.
 //!
-//! Why it ends: twice the sum of the sets, as numbers, and the number of queued edges together fall with each edge taken, since a
-//! set that becomes smaller queues one edge.
+//! Why it ends: twice the sum of the sets, as numbers, and the number of queued edges together fall with each edge
+//! taken, since a set that becomes smaller queues one edge.
 //!
-//! What it costs: an edge is queued at most as often as its set can lose base relations, and each time 2 n sets are looked at, 16
-//! at once. Where a block has a set that isn't within its composition, that one is narrowed by itself.
+//! What it costs: an edge is queued at most as often as its set can lose base relations, and each time 2 n sets are
+//! looked at, 16 at once. Where a block has a set that isn't within its composition, that one is narrowed by itself.
 
 ghost use Rattle.std.specs.Prelude.{◌≡◌, ℕ, ◌+◌, ◌*◌, ◌<◌, ◌≤◌, OnOk, OnErr};
 ghost use Rattle.calculus_table.specs.Rel.{Has, IsWithin};
@@ -20,7 +21,8 @@ ghost use Rattle.calculus_table.specs.Composition.{full_of, converse};
 ghost use Rattle.network_words.specs.Edge.{IsProperPair, IsProperTriple};
 ghost use Rattle.compose_fast.specs.Planes.{AreBaseTables, AreTablesOf};
 ghost use Rattle.closure_seq.specs.Worklist.{Worklist, IsSized, IsQueued, IsIdle, set_of, edge_place, with_pair};
-ghost use Rattle.closure_seq.specs.Propagation.{IsReady, IsStep, IsRefinement, HasEmpty, AreClosed, IsClosedAlong, IsSettledAt, IsSettled, IsSettledBut};
+ghost use Rattle.closure_seq.specs.Propagation.{IsReady, IsStep, IsRefinement, HasEmpty, AreClosed};
+ghost use Rattle.closure_seq.specs.Propagation.{IsClosedAlong, IsSettledAt, IsSettled, IsSettledBut};
 ghost use Rattle.std.specs.Prelude.{slice_set, true};
 
 use crate::pairs::PairSets;
@@ -111,7 +113,8 @@ fn narrow_proper<C: Compose, const P: usize>(
     requires ready { IsReady (C.algebra c.now) P work.old }
     requires proper { IsProperPair work.old.nodes i j }
     ensures step { IsStep (C.algebra c.now) work.old work.new }
-    ensures closed { OnOk result (IsProperTriple work.old.nodes i j k → IsClosedAlong (C.algebra c.now) work.new i j k) }
+    ensures closed { OnOk result
+        (IsProperTriple work.old.nodes i j k → IsClosedAlong (C.algebra c.now) work.new i j k) }
     ensures empty { OnErr result (HasEmpty work.new) }
 {
     if k < work.nodes() && k != i && k != j {
@@ -195,7 +198,8 @@ fn propagate_from<C: Compose, const P: usize>(
     requires proper { IsProperPair work.old.nodes i j }
     requires tables { AreBaseTables (C.algebra c.now) P tables.old.bases }
     ensures step { IsStep (C.algebra c.now) work.old work.new }
-    ensures settled { OnOk result ((k : ℕ) → IsProperTriple work.old.nodes i j k → IsSettledAt (C.algebra c.now) work.new i j k) }
+    ensures settled { OnOk result
+        ((k : ℕ) → IsProperTriple work.old.nodes i j k → IsSettledAt (C.algebra c.now) work.new i j k) }
     ensures empty { OnErr result (HasEmpty work.new) }
     ensures tables { tables.new.bases ≡ tables.old.bases }
 {

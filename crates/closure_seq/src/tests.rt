@@ -160,7 +160,8 @@ fn assert_top(rt: &impl Abort, path: &ClosedPath, net: &Net) {
     assert_eq!(rt; path.is_empty(), empty);
 }
 
-/// Fails unless the changes of the top, undone from the last to the first, lead from the sets of `net` to those of `below`.
+/// Fails unless the changes of the top, undone from the last to the first, lead from the sets of `net` to those of
+/// `below`.
 fn assert_changes(rt: &impl Abort, path: &ClosedPath, mut net: Net, below: &Net) {
     assert!(rt; !path.is_first() && !path.is_empty());
     for change in path.changes().iter().rev() {
@@ -170,8 +171,8 @@ fn assert_changes(rt: &impl Abort, path: &ClosedPath, mut net: Net, below: &Net)
     assert_eq!(rt; net.words(), below.words());
 }
 
-/// Narrows a random edge of the path to a random part of its set, and closes a copy of `top`, its top, with that set anew.
-/// Returns the copy.
+/// Narrows a random edge of the path to a random part of its set, and closes a copy of `top`, its top, with that set
+/// anew. Returns the copy.
 fn narrow_both<C: Compose>(
     rt: &impl Abort,
     alloc: Global,

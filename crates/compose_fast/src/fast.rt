@@ -1,9 +1,9 @@
 //! A calculus that composes and converts sets a nibble at a time.
 //!
-//! The composition of `a` and `b` is the union, over the members `r` of `a`, of what `r` gives composed with `b`; that is the
-//! union of what it gives with each nibble of `b`, an entry of a table. So a composition costs two look-ups for each member of
-//! `a` and each eight base relations of the calculus, and a converse two look-ups for each eight. The tables have 16 entries for
-//! each nibble: 2 KiB for a base relation.
+//! The composition of `a` and `b` is the union, over the members `r` of `a`, of what `r` gives composed with `b`;
+//! that is the union of what it gives with each nibble of `b`, an entry of a table. So a composition costs two
+//! look-ups for each member of `a` and each eight base relations of the calculus, and a converse two look-ups for
+//! each eight. The tables have 16 entries for each nibble: 2 KiB for a base relation.
 
 ghost use Rattle.std.specs.Prelude.{◌≡◌, ℕ, ◌+◌, ◌*◌, ◌/◌, ◌%◌, ◌<◌, ◌≤◌, length, slice_index, IfOk};
 ghost use Rattle.calculus_table.specs.Algebra.{converse_at};
@@ -36,7 +36,12 @@ impl Model for Fast {
 
     ghost Value = { Algebra };
 
-    ghost view = { λ a. record { size = a.size; identity = a.identity; converses = a.converses.items; table = a.entries.items } };
+    ghost view = { λ a. record {
+      size = a.size;
+      identity = a.identity;
+      converses = a.converses.items;
+      table = a.entries.items;
+    } };
 
     ghost invariant = { λ a. AreFastTables
         (record { size = a.size; identity = a.identity; converses = a.converses.items; table = a.entries.items })
@@ -116,7 +121,8 @@ fn rows_of<C: Compose>(alloc: Global, c: &C) -> Result<Vec<Rel>, Memory>
 /// The converses of the sets of the places.
 fn converses_of_places<C: Compose>(alloc: Global, c: &C) -> Result<Vec<Rel>, Memory>
     ensures length_is { IfOk result (λ places. length places.items ≡ 256) }
-    ensures each { IfOk result (λ places. (d : ℕ) → d < 256 → slice_index places.items d ≡ converse_of_place (C.algebra c.now) d) }
+    ensures each { IfOk result (λ places.
+        (d : ℕ) → d < 256 → slice_index places.items d ≡ converse_of_place (C.algebra c.now) d) }
 {
     let mut places = Vec::new(alloc);
     for d in 0..256 {

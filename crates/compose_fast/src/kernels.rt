@@ -1,7 +1,8 @@
-//! Loops over words, several words at a time: each gives what the plain loop gives, for every length. What doesn't fill a
-//! vector at the end is looked at word by word.
+//! Loops over words, several words at a time: each gives what the plain loop gives, for every length. What doesn't
+//! fill a vector at the end is looked at word by word.
 
-ghost use Rattle.std.specs.Prelude.{◌≡◌, ◌≢◌, ◌↔◌, ℕ, ◌+◌, ◌<◌, ◌≤◌, ◌^◌, length, slice_index, MatchOption, bit_and, bit_or};
+ghost use Rattle.std.specs.Prelude.{◌≡◌, ◌≢◌, ◌↔◌, ℕ, ◌+◌, ◌<◌, ◌≤◌, ◌^◌, length, slice_index, MatchOption};
+ghost use Rattle.std.specs.Prelude.{bit_and, bit_or};
 ghost use Rattle.calculus_table.specs.Rel.{Has};
 ghost use Rattle.calculus_table.specs.Composition.{if_has};
 ghost use Rattle.compose_fast.specs.Lanes.{HasLanes};

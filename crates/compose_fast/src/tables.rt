@@ -1,12 +1,12 @@
 //! Composition of one set with 16 others at once.
 //!
-//! The sets lie in planes: plane `p` has a byte for each set, its members `8 p .. 8 p + 7`. A calculus of up to 8 base relations
-//! needs one plane, of up to 16 two, of up to 32 four and of up to 64 eight; the number is a constant `P` of the code, so that
-//! the loops over planes are unrolled.
+//! The sets lie in planes: plane `p` has a byte for each set, its members `8 p .. 8 p + 7`. A calculus of up to 8
+//! base relations needs one plane, of up to 16 two, of up to 32 four and of up to 64 eight; the number is a constant
+//! `P` of the code, so that the loops over planes are unrolled.
 //!
-//! For each base relation there is a table of 32 P bytes a plane: for each nibble of a set, its 16 values. The tables of a set
-//! are the unions of those of its members, 2 P vectors a plane. What a set gives composed with 16 others is then read by 2 P
-//! shuffles a plane (Mula 2016 tells the method for counting bits).
+//! For each base relation there is a table of 32 P bytes a plane: for each nibble of a set, its 16 values. The tables
+//! of a set are the unions of those of its members, 2 P vectors a plane. What a set gives composed with 16 others is
+//! then read by 2 P shuffles a plane (Mula 2016 tells the method for counting bits).
 
 ghost use Rattle.std.specs.Prelude.{◌≡◌, ◌≢◌, ℕ, ◌+◌, ◌*◌, ◌<◌, ◌≤◌, ◌↔◌, length, slice_index, bit_and, bit_or};
 ghost use Rattle.calculus_table.specs.Rel.{Has};
@@ -52,7 +52,8 @@ pub fn put_set<const P: usize>(bytes: &mut [u8], at: usize, a: Rel)
     requires inside { at < 65536 }
     requires bytes_length { length bytes.old ≡ 524288 }
     ensures here { (p : ℕ) → p < P → slice_index bytes.new (65536 * p + at) ≡ byte a p }
-    ensures elsewhere { (e : ℕ) → ((p : ℕ) → p < P → e ≢ 65536 * p + at) → slice_index bytes.new e ≡ slice_index bytes.old e }
+    ensures elsewhere { (e : ℕ) → ((p : ℕ) → p < P → e ≢ 65536 * p + at)
+        → slice_index bytes.new e ≡ slice_index bytes.old e }
 {
     for p in 0..P {
         bytes[PLANE * p + at] = (a.word() >> (8 * p) & 255) as u8;
@@ -64,7 +65,8 @@ fn put_bytes<const P: usize>(bytes: &mut [u8], at: usize, a: Rel)
     requires few { P ≤ 8 }
     requires inside { at + 256 * P ≤ length bytes.old + 255 }
     ensures here { (p : ℕ) → p < P → slice_index bytes.new (256 * p + at) ≡ byte a p }
-    ensures elsewhere { (e : ℕ) → ((p : ℕ) → p < P → e ≢ 256 * p + at) → slice_index bytes.new e ≡ slice_index bytes.old e }
+    ensures elsewhere { (e : ℕ) → ((p : ℕ) → p < P → e ≢ 256 * p + at)
+        → slice_index bytes.new e ≡ slice_index bytes.old e }
 {
     for p in 0..P {
         bytes[256 * p + at] = (a.word() >> (8 * p) & 255) as u8;
@@ -104,7 +106,8 @@ fn add_plane<const P: usize>(set: &mut [u8], bases: &[u8], r: usize, p: usize)
     requires length_is { length set.old ≡ 2048 }
     requires bases_length { length bases.now ≡ 131072 }
     ensures here { (d : ℕ) → d < 32 * P →
-        slice_index set.new (256 * p + d) ≡ bit_or (slice_index set.old (256 * p + d)) (slice_index bases.now (2048 * r + 256 * p + d)) }
+        slice_index set.new (256 * p + d)
+        ≡ bit_or (slice_index set.old (256 * p + d)) (slice_index bases.now (2048 * r + 256 * p + d)) }
     ensures before { (e : ℕ) → e < 256 * p → slice_index set.new e ≡ slice_index set.old e }
     ensures after { (e : ℕ) → 256 * p + 32 * P ≤ e → slice_index set.new e ≡ slice_index set.old e }
 {
@@ -123,7 +126,8 @@ fn add_base<const P: usize>(set: &mut [u8], bases: &[u8], r: usize)
     requires length_is { length set.old ≡ 2048 }
     requires bases_length { length bases.now ≡ 131072 }
     ensures { (p d : ℕ) → p < P → d < 32 * P →
-        slice_index set.new (256 * p + d) ≡ bit_or (slice_index set.old (256 * p + d)) (slice_index bases.now (2048 * r + 256 * p + d)) }
+        slice_index set.new (256 * p + d)
+        ≡ bit_or (slice_index set.old (256 * p + d)) (slice_index bases.now (2048 * r + 256 * p + d)) }
 {
     for p in 0..P {
         add_plane::<P>(set, bases, r, p);
@@ -150,8 +154,8 @@ fn along_plane<const P: usize>(set: &[u8], bytes: &[u8], p: usize, at: usize) ->
     all
 }
 
-/// A bit for each of the 16 sets from place `here` on that isn't within what the tables of a set give for the one as far from
-/// `there` on.
+/// A bit for each of the 16 sets from place `here` on that isn't within what the tables of a set give for the one as
+/// far from `there` on.
 #[inline(always)]
 fn open_lanes<const P: usize>(set: &[u8], bytes: &[u8], here: usize, there: usize) -> u64
     requires few { P ≤ 8 }
@@ -223,16 +227,18 @@ impl Tables {
         }
     }
 
-    /// A bit for each of the 16 sets from place `here` on that isn't within the composition of the taken set with the one as
-    /// far from `there` on, byte by byte.
+    /// A bit for each of the 16 sets from place `here` on that isn't within the composition of the taken set with the
+    /// one as far from `there` on, byte by byte.
     #[inline(always)]
     pub fn open_lanes<const P: usize>(&self, bytes: &[u8], here: usize, there: usize) -> u64
         requires few { P ≤ 8 }
         requires inside { here + 16 ≤ 65536 }
         requires inside_too { there + 16 ≤ 65536 }
         requires bytes_length { length bytes.now ≡ 524288 }
-        ensures clear { (k : ℕ) → k < 16 → ¬ Has result k → IsWithinAlong self.now.set bytes.now P (here + k) (there + k) }
-        ensures gap { (k : ℕ) → k < 16 → Has result k → ¬ IsWithinAlong self.now.set bytes.now P (here + k) (there + k) }
+        ensures clear { (k : ℕ) → k < 16 → ¬ Has result k
+            → IsWithinAlong self.now.set bytes.now P (here + k) (there + k) }
+        ensures gap { (k : ℕ) → k < 16 → Has result k
+            → ¬ IsWithinAlong self.now.set bytes.now P (here + k) (there + k) }
         ensures below { (k : ℕ) → Has result k → k < 16 }
     {
         open_lanes::<P>(&self.set, bytes, here, there)

@@ -73,8 +73,8 @@ fn compose_bases(rt: &impl Abort, c: &Calculus, r: u32, s: u32) -> Rel {
     c.compose(a, b)
 }
 
-/// The entry at place `e` of the table of the product of a calculus of eight base relations with itself, whose base relation
-/// `8 r + s` is the pair `(r, s)`.
+/// The entry at place `e` of the table of the product of a calculus of eight base relations with itself, whose base
+/// relation `8 r + s` is the pair `(r, s)`.
 fn product_entry(rt: &impl Abort, c: &Calculus, e: u32) -> Rel {
     let (a, b) = (e / 64 % 64, e % 64);
     let first = compose_bases(rt, c, a / 8, b / 8);

@@ -1,6 +1,7 @@
 //! Vectors of 16 bytes, lane by lane.
 
-ghost use Rattle.std.specs.Prelude.{◌≡◌, ◌≢◌, ◌↔◌, ℕ, ◌+◌, ◌*◌, ◌/◌, ◌%◌, ◌<◌, ◌≤◌, length, slice_index, bit_and, bit_or};
+ghost use Rattle.std.specs.Prelude.{◌≡◌, ◌≢◌, ◌↔◌, ℕ, ◌+◌, ◌*◌, ◌/◌, ◌%◌, ◌<◌, ◌≤◌, length, slice_index};
+ghost use Rattle.std.specs.Prelude.{bit_and, bit_or};
 ghost use Rattle.calculus_table.specs.Rel.{Has};
 ghost use Rattle.std.specs.Simd.Lanes.{put_chunk};
 ghost use Rattle.compose_fast.specs.Lanes.{HasLanes, by_nibbles};

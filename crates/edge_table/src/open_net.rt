@@ -89,7 +89,8 @@ impl OpenNet {
     ghost use Rattle.narrow_core.specs.Actor.{seeing, stating, giving, fresh, joining};
     ghost use Rattle.narrow_core.specs.Machine.{IsProperFact};
     ghost use Rattle.edge_table.specs.Opening.{IsPassOf, algebra_of, opening_over};
-    ghost use Rattle.edge_table.specs.Passes.{seen_between, Reads, Asserts, Narrows, ReadsAndNarrows, ReadsAll, AreClosedWords};
+    ghost use Rattle.edge_table.specs.Passes.{seen_between, Reads, Asserts, Narrows, ReadsAndNarrows};
+    ghost use Rattle.edge_table.specs.Passes.{ReadsAll, AreClosedWords};
 
     /// The number of nodes.
     pub fn nodes(&self) -> u32
