@@ -1,0 +1,3 @@
+pub mod ScenarioFault
+pub mod Places
+pub mod Laws

@@ -1,0 +1,24 @@
+//! Scenarios of a network: one base relation for each edge, checked against the network and the calculus.
+//!
+//! A scenario is what shows that the statements of a network can hold together: where every pair of things has one of
+//! the relations that the network leaves it, and the relations agree along every third thing (Renz and Nebel). So
+//! whoever is handed one needs to trust nobody's search:
+//!
+//! ```text
+//! match check(&net, &c, &scenario) {
+//!     Ok(()) => ..                        // it is a scenario of the network
+//!     Err(At::Triple { i, j, k }) => ..   // the first triple that doesn't compose
+//!     Err(fault) => ..
+//! }
+//! ```
+#![tactic(auto)]
+
+mod checking;
+mod edges;
+mod laws;
+#[cfg(test)]
+mod tests;
+mod triples;
+
+pub use checking::{At, Scenario, check};
+pub use laws::laws_of_scenario_faults;
