@@ -1,5 +1,5 @@
 -- A list of base relations has one fault at most, and a scenario has none.
-use Rattle.std.proofs.Common.{◌≡◌, ℕ, ◌<◌, List, refl, ap, sym, ◌∙◌, arith, inl, inr}
+use Rattle.std.proofs.Common.{◌≡◌, ℕ, ◌<◌, List, refl, arith, inl, inr}
 use Rattle.std.proofs.lemmas.Bool.{cases_lt}
 use Rattle.calculus_table.specs.Algebra.{Algebra}
 use Rattle.network_words.specs.Edge.{edge_at}

@@ -8,7 +8,7 @@ use Rattle.calculus_table.specs.Algebra.{Algebra, entry_at}
 use Rattle.network_words.specs.Edge.{edge_count, edge_at, EdgeOf}
 use Rattle.network_words.specs.Scenario.{IsScenario}
 use Rattle.network_words.proofs.Edges.{edge_of}
-use Rattle.scenario.specs.ScenarioFault.{HasShape, IsMemberAt, ComposesAt, EachEdge, EachTriple, IsFirstEdge, IsFirstTriple}
+use Rattle.scenario.specs.ScenarioFault.{HasShape, IsMemberAt, ComposesAt, EachTriple, IsFirstEdge, IsFirstTriple}
 use Rattle.scenario.specs.Laws.{Fault}
 use Rattle.scenario.specs.declared.checking.At.TheVariants.{Outside, Triple, Shape}
 use Rattle.scenario.proofs.Faults.{IsScenario-checked}
@@ -142,13 +142,16 @@ shape_decided m n relations = elim (cases_eq (length relations) (edge_count n)) 
 -- the first edge without a property, by its nodes
 first_edge : (n : ℕ) (P : ℕ → Type 0) (f : IsFirst (edge_count n) P) → (i : ℕ) × (j : ℕ) × IsFirstEdge n P i j
 first_edge n P f =
-    let e : EdgeOf n f.at = edge_of n f.at f.below in
-    (e.first, e.second, record {
-      order = e.order;
-      below = e.below;
-      here = λ p. f.here (subst P e.number p);
-      before = λ q l. f.before q (omega (arith, e.number));
-    })
+    let e : EdgeOf n f.at = edge_of n f.at f.below in (
+      e.first,
+      e.second,
+      record {
+        order = e.order;
+        below = e.below;
+        here = λ p. f.here (subst P e.number p);
+        before = λ q l. f.before q (omega (arith, e.number));
+      },
+    )
 
 -- a list is a scenario or has a fault
 pub scenario_or_fault : (m : Algebra) (n : ℕ) (words relations : List ℕ) → IsScenario m n words relations ⊎ Fault m n words relations

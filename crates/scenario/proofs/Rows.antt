@@ -1,9 +1,9 @@
 -- Edges of one node stand one after another, and places in edge order are places in the order of pairs.
-use Rattle.std.proofs.Common.{◌≡◌, ℕ, Bool, List, ◌+◌, ◌-◌, ◌*◌, ◌/◌, ◌<◌, ◌≤◌, ◌↔◌, IsTrue, ap, ◌∙◌, subst, sym, arith, inl, inr}
+use Rattle.std.proofs.Common.{◌≡◌, ℕ, Bool, List, ◌+◌, ◌-◌, ◌*◌, ◌/◌, ◌<◌, ◌↔◌, IsTrue, subst, sym, arith, inl, inr}
 use Rattle.std.specs.Prelude.{slice_index}
 use Rattle.calculus_table.specs.Rel.{Has}
 use Rattle.calculus_table.specs.Algebra.{Algebra, entry_at}
-use Rattle.network_words.specs.Edge.{edge_count, edge_at, EdgeOf, ComesBefore}
+use Rattle.network_words.specs.Edge.{edge_at, EdgeOf, ComesBefore}
 use Rattle.network_words.proofs.Edges.{edge_of, edge_at-lt, edge_at-order}
 use Rattle.scenario.specs.ScenarioFault.{ComposesAt, EachEdge, IsFirstEdge}
 use Rattle.scenario.specs.Places.{EachPairFrom, IsFirstPairFrom}

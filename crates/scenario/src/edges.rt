@@ -13,7 +13,7 @@ fn first_outside_of(net: &Net, bases: &[u8], i: u32) -> Option<u32>
     ensures { MatchOption result
         (EachFrom (i + 1) net.now.nodes (λ j. IsMemberAt net.now.words bases.now (edge_at net.now.nodes i j)))
         (IsFirstFrom (i + 1) net.now.nodes
-          (λ j. IsMemberAt net.now.words bases.now (edge_at net.now.nodes i j))) }
+        (λ j. IsMemberAt net.now.words bases.now (edge_at net.now.nodes i j))) }
 {
     let nodes = net.nodes();
     for j in i + 1..nodes {
@@ -31,7 +31,7 @@ pub(crate) fn first_outside(net: &Net, bases: &[u8]) -> Option<(u32, u32)>
     ensures { MatchOption result
         (EachPairFrom 0 net.now.nodes (λ i j. IsMemberAt net.now.words bases.now (edge_at net.now.nodes i j)))
         (λ p. IsFirstPairFrom 0 net.now.nodes
-          (λ i j. IsMemberAt net.now.words bases.now (edge_at net.now.nodes i j)) p.0 p.1) }
+        (λ i j. IsMemberAt net.now.words bases.now (edge_at net.now.nodes i j)) p.0 p.1) }
 {
     for i in 0..net.nodes() {
         if let Some(j) = first_outside_of(net, bases, i) {

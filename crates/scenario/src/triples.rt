@@ -52,7 +52,7 @@ fn first_broken_pair<C: Compose>(net: &Net, c: &C, bases: &[u8], i: u32) -> Opti
     ensures { MatchOption result
         (EachPairFrom (i + 1) net.now.nodes (ComposesAt (C.algebra c.now) net.now.nodes bases.now i))
         (λ p. IsFirstPairFrom (i + 1) net.now.nodes
-          (ComposesAt (C.algebra c.now) net.now.nodes bases.now i) p.0 p.1) }
+        (ComposesAt (C.algebra c.now) net.now.nodes bases.now i) p.0 p.1) }
 {
     let nodes = net.nodes();
     for j in i + 1..nodes - 1 {
@@ -64,16 +64,12 @@ fn first_broken_pair<C: Compose>(net: &Net, c: &C, bases: &[u8], i: u32) -> Opti
 }
 
 /// The first triple of nodes, in lexicographic order, that doesn't compose.
-pub(crate) fn first_broken<C: Compose>(
-    net: &Net,
-    c: &C,
-    bases: &[u8],
-) -> Option<(u32, u32, u32)>
+pub(crate) fn first_broken<C: Compose>(net: &Net, c: &C, bases: &[u8]) -> Option<(u32, u32, u32)>
     requires { HasShape (C.algebra c.now) net.now.nodes bases.now }
     ensures { MatchOption result
         (EachTriple net.now.nodes (ComposesAt (C.algebra c.now) net.now.nodes bases.now))
         (λ p. IsFirstTriple net.now.nodes
-          (ComposesAt (C.algebra c.now) net.now.nodes bases.now) p.0 p.1 p.2) }
+        (ComposesAt (C.algebra c.now) net.now.nodes bases.now) p.0 p.1 p.2) }
 {
     for i in 0..net.nodes() {
         if let Some((j, k)) = first_broken_pair(net, c, bases, i) {
