@@ -16,6 +16,10 @@ pub record HasShape (m : Algebra) (n : ℕ) (relations : List ℕ) : Type 0 wher
 abbrev pub IsMemberAt : List ℕ → List ℕ → ℕ → Type 0
 IsMemberAt words relations e = Has (slice_index words e) (slice_index relations e)
 
+-- so is that of the edge from i to j
+abbrev pub IsMemberBetween : ℕ → List ℕ → List ℕ → ℕ → ℕ → Type 0
+IsMemberBetween n words relations i j = IsMemberAt words relations (edge_at n i j)
+
 -- the base relation of (i, k) is in the composition of those of (i, j) and (j, k)
 abbrev pub ComposesAt : Algebra → ℕ → List ℕ → ℕ → ℕ → ℕ → Type 0
 ComposesAt m n relations i j k =

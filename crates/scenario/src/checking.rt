@@ -3,8 +3,8 @@
 //! Three questions are asked one after another: whether there is a base relation of the calculus for each edge, whether
 //! each is in its edge's set, and whether that of (i, k) is in the composition of those of (i, j) and (j, k), for all
 //! nodes `i < j < k`. That is the definition of a scenario, and each question is asked of the places in their order, so
-//! the first answer of no is the first fault. One order of the three nodes is enough: by the laws of the calculus a triple
-//! that composes in one order does in every other (Renz and Nebel).
+//! the first answer of no is the first fault. One order of the three nodes is enough: by the laws of the calculus a
+//! triple that composes in one order does in every other (Renz and Nebel).
 //!
 //! Each loop is over nodes, so it ends. `n` nodes have `n * (n - 1) * (n - 2) / 6` triples, and each costs one
 //! composition of two base relations.

@@ -1,7 +1,7 @@
 //! The first edge whose base relation isn't in its set: edge order is row by row, so it is looked for so.
 ghost use Rattle.std.specs.Prelude.{◌≡◌, ◌+◌, ◌<◌, MatchOption, length};
-ghost use Rattle.network_words.specs.Edge.{edge_count, edge_at};
-ghost use Rattle.scenario.specs.ScenarioFault.{IsMemberAt};
+ghost use Rattle.network_words.specs.Edge.{edge_count};
+ghost use Rattle.scenario.specs.ScenarioFault.{IsMemberBetween};
 ghost use Rattle.scenario.specs.Places.{EachFrom, IsFirstFrom, EachPairFrom, IsFirstPairFrom};
 
 use network_words::Net;
@@ -11,9 +11,10 @@ fn first_outside_of(net: &Net, bases: &[u8], i: u32) -> Option<u32>
     requires length_is { length bases.now ≡ edge_count net.now.nodes }
     requires below { i < net.now.nodes }
     ensures { MatchOption result
-        (EachFrom (i + 1) net.now.nodes (λ j. IsMemberAt net.now.words bases.now (edge_at net.now.nodes i j)))
+        (EachFrom (i + 1) net.now.nodes
+        (IsMemberBetween net.now.nodes net.now.words bases.now i))
         (IsFirstFrom (i + 1) net.now.nodes
-        (λ j. IsMemberAt net.now.words bases.now (edge_at net.now.nodes i j))) }
+        (IsMemberBetween net.now.nodes net.now.words bases.now i)) }
 {
     let nodes = net.nodes();
     for j in i + 1..nodes {
@@ -29,9 +30,9 @@ fn first_outside_of(net: &Net, bases: &[u8], i: u32) -> Option<u32>
 pub(crate) fn first_outside(net: &Net, bases: &[u8]) -> Option<(u32, u32)>
     requires { length bases.now ≡ edge_count net.now.nodes }
     ensures { MatchOption result
-        (EachPairFrom 0 net.now.nodes (λ i j. IsMemberAt net.now.words bases.now (edge_at net.now.nodes i j)))
+        (EachPairFrom 0 net.now.nodes (IsMemberBetween net.now.nodes net.now.words bases.now))
         (λ p. IsFirstPairFrom 0 net.now.nodes
-        (λ i j. IsMemberAt net.now.words bases.now (edge_at net.now.nodes i j)) p.0 p.1) }
+        (IsMemberBetween net.now.nodes net.now.words bases.now) p.0 p.1) }
 {
     for i in 0..net.nodes() {
         if let Some(j) = first_outside_of(net, bases, i) {

@@ -1,8 +1,8 @@
 //! The first triple that doesn't compose.
 //!
-//! For two nodes `i < j` the edges from `i` to the nodes after `j`, and those from `j` to them, stand one after another in
-//! edge order. So for each third node the two base relations are read at places that go up by one, and one composition
-//! is looked up.
+//! For two nodes `i < j` the edges from `i` to the nodes after `j`, and those from `j` to them, stand one after another
+//! in edge order. So for each third node the two base relations are read at places that go up by one, and one
+//! composition is looked up.
 ghost use Rattle.std.specs.Prelude.{◌≡◌, ◌+◌, ◌<◌, ◌↔◌, IsTrue, MatchOption, length};
 ghost use Rattle.calculus_table.specs.Rel.{Has};
 ghost use Rattle.calculus_table.specs.Algebra.{entry_at};
@@ -28,8 +28,10 @@ fn first_broken_third<C: Compose>(net: &Net, c: &C, bases: &[u8], i: u32, j: u32
     requires order { i < j }
     requires below { j + 1 < net.now.nodes }
     ensures { MatchOption result
-        (EachFrom (j + 1) net.now.nodes (ComposesAt (C.algebra c.now) net.now.nodes bases.now i j))
-        (IsFirstFrom (j + 1) net.now.nodes (ComposesAt (C.algebra c.now) net.now.nodes bases.now i j)) }
+        (EachFrom (j + 1) net.now.nodes
+        (ComposesAt (C.algebra c.now) net.now.nodes bases.now i j))
+        (IsFirstFrom (j + 1) net.now.nodes
+        (ComposesAt (C.algebra c.now) net.now.nodes bases.now i j)) }
 {
     let nodes = net.nodes();
     let pair = net.edge(i, j);
@@ -50,7 +52,8 @@ fn first_broken_pair<C: Compose>(net: &Net, c: &C, bases: &[u8], i: u32) -> Opti
     requires shape { HasShape (C.algebra c.now) net.now.nodes bases.now }
     requires below { i < net.now.nodes }
     ensures { MatchOption result
-        (EachPairFrom (i + 1) net.now.nodes (ComposesAt (C.algebra c.now) net.now.nodes bases.now i))
+        (EachPairFrom (i + 1) net.now.nodes
+        (ComposesAt (C.algebra c.now) net.now.nodes bases.now i))
         (λ p. IsFirstPairFrom (i + 1) net.now.nodes
         (ComposesAt (C.algebra c.now) net.now.nodes bases.now i) p.0 p.1) }
 {

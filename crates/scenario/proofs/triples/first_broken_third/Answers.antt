@@ -1,5 +1,4 @@
-use Rattle.std.proofs.Common.{◌≡◌, ◌↔◌, IsTrue, ap, ◌∙◌, subst, arith, rules, inl, inr}
-use Rattle.std.specs.Prelude.{slice_index}
+use Rattle.std.proofs.Common.{◌≡◌, ◌↔◌, IsTrue, subst, arith, rules, inl, inr}
 use Rattle.std.proofs.lemmas.Bool.{cases_lt}
 use Rattle.network_words.proofs.Edges.{edge_at-lt}
 use Rattle.scenario.specs.ScenarioFault.{ComposesAt}
@@ -25,11 +24,8 @@ returns-then-not-composes g c =
     let bases = c.args.bases.now in
     let k = c.loop-k.k in
     let read : IsTrue c.composes.result ↔ ComposesAt m n bases c.args.i c.args.j k =
-    ComposesAt-read m n bases c.args.i c.args.j k c.from-first.result c.from-second.result c.from-whole.result c.composes.result
-    (c.from-first.ensures ∙ ap (slice_index bases) c.edge-pair.ensures.value)
-    (c.from-second.ensures ∙ ap (slice_index bases) (omega (arith, edge_at-next n c.args.j k (omega arith), c.edge-next.ensures.value)))
-    (c.from-whole.ensures ∙ ap (slice_index bases) (omega (arith, edge_at-after n c.args.i c.args.j k (omega arith) (omega arith), c.edge-pair.ensures.value)))
-    c.composes.ensures in
+    ComposesAt-read m n bases c.args.i c.args.j k c.edge-pair.result c.edge-next.result c.from-first.result c.from-second.result c.from-whole.result c.composes.result c.requires.order (omega arith)
+    c.edge-pair.ensures.value c.edge-next.ensures.value c.from-first.ensures c.from-second.ensures c.from-whole.ensures c.composes.ensures in
     record {
       above = omega arith;
       below = omega arith;
@@ -44,11 +40,8 @@ loop-k-preserved g c =
     let bases = c.args.bases.now in
     let k = c.loop-k.k in
     let read : IsTrue c.composes.result ↔ ComposesAt m n bases c.args.i c.args.j k =
-    ComposesAt-read m n bases c.args.i c.args.j k c.from-first.result c.from-second.result c.from-whole.result c.composes.result
-    (c.from-first.ensures ∙ ap (slice_index bases) c.edge-pair.ensures.value)
-    (c.from-second.ensures ∙ ap (slice_index bases) (omega (arith, edge_at-next n c.args.j k (omega arith), c.edge-next.ensures.value)))
-    (c.from-whole.ensures ∙ ap (slice_index bases) (omega (arith, edge_at-after n c.args.i c.args.j k (omega arith) (omega arith), c.edge-pair.ensures.value)))
-    c.composes.ensures in
+    ComposesAt-read m n bases c.args.i c.args.j k c.edge-pair.result c.edge-next.result c.from-first.result c.from-second.result c.from-whole.result c.composes.result c.requires.order (omega arith)
+    c.edge-pair.ensures.value c.edge-next.ensures.value c.from-first.ensures c.from-second.ensures c.from-whole.ensures c.composes.ensures in
     let here : ComposesAt m n bases c.args.i c.args.j k = read.0 (search rules) in
     λ q above below. elim (cases_lt q k) [
       | inl less ↦ c.loop-k.invariant q above less
