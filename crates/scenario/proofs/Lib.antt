@@ -1,3 +1,4 @@
 mod Rows
+mod LookUps
 mod Faults
 mod FirstFaults

@@ -1,11 +1,8 @@
 -- Edges of one node stand one after another, and places in edge order are places in the order of pairs.
-use Rattle.std.proofs.Common.{◌≡◌, ℕ, Bool, List, ◌+◌, ◌-◌, ◌*◌, ◌/◌, ◌<◌, ◌↔◌, IsTrue, ap, ◌∙◌, subst, sym, arith, inl, inr}
-use Rattle.std.specs.Prelude.{slice_index}
-use Rattle.calculus_table.specs.Rel.{Has}
-use Rattle.calculus_table.specs.Algebra.{Algebra, entry_at}
+use Rattle.std.proofs.Common.{◌≡◌, ℕ, ◌+◌, ◌-◌, ◌*◌, ◌/◌, ◌<◌, subst, sym, arith, inl, inr}
 use Rattle.network_words.specs.Edge.{edge_at, EdgeOf, ComesBefore}
 use Rattle.network_words.proofs.Edges.{edge_of, edge_at-lt, edge_at-order}
-use Rattle.scenario.specs.ScenarioFault.{ComposesAt, EachEdge, IsFirstEdge}
+use Rattle.scenario.specs.ScenarioFault.{EachEdge, IsFirstEdge}
 use Rattle.scenario.specs.Places.{EachPairFrom, IsFirstPairFrom}
 
 -- the edge from i to a node k after j
@@ -23,16 +20,6 @@ edge_at-next n j k o = sums (j * (2 * n - j - 1) / 2) j k o
   where
     sums : (x j k : ℕ) → j < k → x + (k - j - 1) ≡ x + (j + 1 - j - 1) + (k - j - 1)
     sums x j k o = omega arith
-
--- whether a triple composes, by the base relations that are read for it: those of the edge `pair` from i to j, of an edge
--- after `next`, the first one from j, and of an edge after `pair`
-pub ComposesAt-read : (m : Algebra) (n : ℕ) (relations : List ℕ) (i j k pair next r s t : ℕ) (b : Bool) → i < j → j < k → pair ≡ edge_at n i j → next ≡ edge_at n j (j + 1) →
-    r ≡ slice_index relations pair → s ≡ slice_index relations (next + (k - j - 1)) → t ≡ slice_index relations (pair + (k - j)) →
-    IsTrue b ↔ Has (entry_at m r s) t → IsTrue b ↔ ComposesAt m n relations i j k
-ComposesAt-read m n relations i j k pair next r s t b o o2 is_pair is_next first second whole h =
-    let second_at : next + (k - j - 1) ≡ edge_at n j k = omega (arith, edge_at-next n j k o2) in
-    let whole_at : pair + (k - j) ≡ edge_at n i k = omega (arith, edge_at-after n i j k o o2) in
-    rw (first ∙ ap (slice_index relations) is_pair, second ∙ ap (slice_index relations) second_at, whole ∙ ap (slice_index relations) whole_at) at h
 
 -- what holds of the edge of each pair holds of each edge
 pub EachEdge-pairs : (n : ℕ) (P : ℕ → Type 0) → EachPairFrom 0 n (λ i j. P (edge_at n i j)) → EachEdge n P

@@ -1,3 +1,4 @@
 pub mod ScenarioFault
+pub mod Entries
 pub mod Places
 pub mod Laws

@@ -15,6 +15,7 @@
 
 mod checking;
 mod edges;
+mod entries;
 mod laws;
 #[cfg(test)]
 mod tests;
