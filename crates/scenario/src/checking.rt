@@ -6,9 +6,9 @@
 //! the first answer of no is the first fault. One order of the three nodes is enough: by the laws of the calculus a
 //! triple that composes in one order does in every other (Renz and Nebel).
 //!
-//! Each loop is over nodes, edges or base relations, so it ends. `n` nodes have `n * (n - 1) * (n - 2) / 6` triples, and
-//! each costs one look-up of a composition of two base relations. All of these are taken from the calculus once, before
-//! the first triple.
+//! Each loop is over nodes, edges or base relations, so it ends. `n` nodes have `n * (n - 1) * (n - 2) / 6` triples,
+//! and each costs one look-up of a composition of two base relations. All of these are taken from the calculus once,
+//! before the first triple.
 ghost use Rattle.std.specs.Prelude.{◌≡◌, ◌<◌, ◌↔◌, IsTrue, MatchResult, All, length};
 ghost use Rattle.network_words.specs.Edge.{edge_count};
 ghost use Rattle.network_words.specs.Scenario.{IsScenario};
