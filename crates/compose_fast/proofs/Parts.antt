@@ -101,3 +101,25 @@ place-word d l = mod-eq_of_lt (below (d % 16) (d / 16) (omega arith) (omega arit
         let most : 2 ^ (4 * h) ≤ 2 ^ 60 = pow-le-pow_right {n = 2} (omega arith) exponent in
         let times : v * 2 ^ (4 * h) ≤ 15 * 2 ^ (4 * h) = mul-le-mul_right (2 ^ (4 * h)) (omega arith) in
         omega arith
+
+-- ---- a set from its bytes
+
+-- one byte more of a set
+pub bytes-more : (x p : ℕ) → bit_or (x % 2 ^ (8 * p)) (byte x p * 2 ^ (8 * p)) ≡ x % 2 ^ (8 * (p + 1))
+bytes-more x p =
+    let e : 8 + 8 * p ≡ 8 * (p + 1) = omega arith in
+    or_shifted_r (byte x p) (8 * p) (x % 2 ^ (8 * p)) (mod-lt x (pow_pos (8 * p)))
+    ∙ sym (mod-pow-add x 8 (8 * p)) ∙ ap (λ k. x % 2 ^ k) e
+
+-- all bytes of a set
+pub bytes-whole : (m : Algebra) (x n : ℕ) → IsWithin x (full_of m) → m.size ≤ 8 * n → x % 2 ^ (8 * n) ≡ x
+bytes-whole m x n w few = mod-eq_of_lt (full-lt m x (8 * n) w few)
+
+-- the word that a byte of a set is written as
+pub byte-word : (x p : ℕ) → p < 8 → byte x p * 2 ^ (8 * p) % 2 ^ 64 ≡ byte x p * 2 ^ (8 * p)
+byte-word x p l =
+    let exponent : 8 * p ≤ 56 = omega arith in
+    let most : 2 ^ (8 * p) ≤ 2 ^ 56 = pow-le-pow_right {n = 2} (omega arith) exponent in
+    let small = byte-lt x p in
+    let times : byte x p * 2 ^ (8 * p) ≤ 255 * 2 ^ (8 * p) = mul-le-mul_right (2 ^ (8 * p)) (omega arith) in
+    mod-eq_of_lt (omega arith)

@@ -54,3 +54,14 @@ pub converse-more : (m : Algebra) (x h : ℕ) → IsWithin x (full_of m) →
 converse-more m x h w =
     ap (λ y. bit_or (converse m (x % 2 ^ (4 * h))) (converse m y)) (place-kept m x h w)
     ∙ sym (converse-union m _ _) ∙ ap (converse m) (sym (nibbles-more x h))
+
+-- and of a set that another is composed with
+pub composition-more : (m : Algebra) (a x h : ℕ) → IsTable m → IsWithin x (full_of m) →
+    bit_or (composition m a (x % 2 ^ (4 * h))) (composition m a (bit_and (set_of_place (16 * h + nibble x h)) (full_of m))) ≡ composition m a (x % 2 ^ (4 * (h + 1)))
+composition-more m a x h k w =
+    ap (λ y. bit_or (composition m a (x % 2 ^ (4 * h))) (composition m a y)) (place-kept m x h w)
+    ∙ sym (composition-union_r m a _ _ k) ∙ ap (composition m a) (sym (nibbles-more x h))
+
+-- the composition with the empty set is empty
+pub composition-empty_r : (m : Algebra) (a : ℕ) → IsTable m → composition m a 0 ≡ 0
+composition-empty_r m a k = empty-within _ (record { each = λ t h. absurd (not_Has-empty _ (composition-member m a 0 t k h).second_in) })

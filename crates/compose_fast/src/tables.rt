@@ -16,7 +16,7 @@ ghost use Rattle.compose_fast.specs.Nibbles.{byte, composition_at};
 ghost use Rattle.compose_fast.specs.Planes.{along_at, IsWithinAlong};
 
 use crate::members::without;
-use crate::nibbles::composition_at;
+use crate::nibbles::{composition_at, place_of};
 use crate::room::filled;
 use crate::vectors::{along, both, differing, either, load, store};
 use calculus_table::{Compose, Memory, Rel, lawful};
@@ -179,7 +179,8 @@ impl Tables {
     ghost use Rattle.std.specs.Prelude.{◌≡◌, ℕ, ◌+◌, ◌*◌, ◌<◌, ◌≤◌, length};
     ghost use Rattle.calculus_table.specs.Rel.{Has, IsWithin};
     ghost use Rattle.calculus_table.specs.Calculus.{IsCalculus};
-    ghost use Rattle.calculus_table.specs.Composition.{full_of};
+    ghost use Rattle.calculus_table.specs.Composition.{full_of, composition};
+    ghost use Rattle.compose_fast.specs.Nibbles.{byte};
     ghost use Rattle.compose_fast.specs.Planes.{AreBaseTables, AreTablesOf, IsWithinAlong};
 
     /// Room for the tables of a calculus of any size.
@@ -225,6 +226,44 @@ impl Tables {
             add_base::<P>(set, bases, r as usize);
             left = without(left, r);
         }
+    }
+
+    /// Byte `p` of the composition of the taken set `a` with `b`: the union of what the nibbles of `b` give.
+    #[inline(always)]
+    fn compose_byte<C: Compose, const P: usize>(&self, c: &C, a: Rel, b: Rel, p: usize) -> u8
+        requires few { P ≤ 8 }
+        requires plane { p < P }
+        requires enough { (C.algebra c.now).size ≤ 8 * P }
+        requires tables { AreTablesOf (C.algebra c.now) P a self.now.set }
+        requires within { IsWithin b (full_of (C.algebra c.now)) }
+        ensures { result ≡ byte (composition (C.algebra c.now) a b) p }
+    {
+        lawful(c);
+        let mut all = 0;
+        let mut rest = b.word();
+        for h in 0..2 * P {
+            all |= self.set[256 * p + place_of(rest, h as u32) as usize];
+            rest >>= 4;
+        }
+        all
+    }
+
+    /// The composition of the taken set `a` with `b`.
+    #[inline(always)]
+    pub fn compose<C: Compose, const P: usize>(&self, c: &C, a: Rel, b: Rel) -> Rel
+        requires few { P ≤ 8 }
+        requires enough { (C.algebra c.now).size ≤ 8 * P }
+        requires tables { AreTablesOf (C.algebra c.now) P a self.now.set }
+        requires within { IsWithin b (full_of (C.algebra c.now)) }
+        ensures { result ≡ composition (C.algebra c.now) a b }
+    {
+        lawful(c);
+        let mut all = Rel::EMPTY;
+        for p in 0..P {
+            let byte = u64::from(self.compose_byte::<C, P>(c, a, b, p));
+            all = all.union(Rel::of(byte << (8 * p)));
+        }
+        all
     }
 
     /// A bit for each of the 16 sets from place `here` on that isn't within the composition of the taken set with the
