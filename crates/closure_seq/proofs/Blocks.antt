@@ -10,7 +10,8 @@ use Rattle.network_words.proofs.Pairs.{pair-outer}
 use Rattle.compose_fast.specs.Planes.{AreTablesOf, IsWithinAlong}
 use Rattle.compose_fast.proofs.Clear.{within_along}
 use Rattle.closure_seq.specs.Worklist.{Worklist, IsQueued, AreBytesOf, set_of}
-use Rattle.closure_seq.specs.Propagation.{IsReady, IsStep, IsClosedAlong, IsSettledAt}
+use Rattle.closure_seq.specs.declared.span.Span.{Span}
+use Rattle.closure_seq.specs.Propagation.{IsReady, IsStep, IsAmong, IsSettledAt}
 use Rattle.closure_seq.proofs.Steps.{IsStep-trans}
 use Rattle.closure_seq.proofs.Settled.{IsSettledAt-step}
 
@@ -33,39 +34,39 @@ settled-clear m planes work set bytes i j from l a r b tables t set-is clear = �
 
 -- ---- lanes one after another
 
-pub record AreLanesDone (m : Algebra) (old new : Worklist) (i j from left : ℕ) : Type 0 where
+pub record AreLanesDone (m : Algebra) (span : Span) (old new : Worklist) (i j from left : ℕ) : Type 0 where
   pub step : IsStep m old new
-  pub settled : (l : ℕ) → l < 16 → ¬ Has left l → IsProperTriple old.nodes i j (from + l) → IsSettledAt m new i j (from + l)
+  pub settled : (l : ℕ) → l < 16 → ¬ Has left l → IsProperTriple old.nodes i j (from + l) → IsAmong span (from + l) → IsSettledAt m new i j (from + l)
 
-pub AreLanesDone-step : (m : Algebra) (a b c : Worklist) (i j from left lane rest : ℕ) → AreLanesDone m a b i j from left → IsWithout left lane rest → IsStep m b c →
-    (IsProperTriple b.nodes i j (from + lane) → IsClosedAlong m c i j (from + lane)) → AreLanesDone m a c i j from rest
-AreLanesDone-step m a b c i j from left lane rest p out q h = record {
+pub AreLanesDone-step : (m : Algebra) (span : Span) (a b c : Worklist) (i j from left lane rest : ℕ) → AreLanesDone m span a b i j from left → IsWithout left lane rest → IsStep m b c →
+    (IsProperTriple b.nodes i j (from + lane) → IsAmong span (from + lane) → IsSettledAt m c i j (from + lane)) → AreLanesDone m span a c i j from rest
+AreLanesDone-step m span a b c i j from left lane rest p out q h = record {
   step = IsStep-trans m a b c p.step q;
-  settled = λ l small none t.
+  settled = λ l small none t among.
       let t' : IsProperTriple b.nodes i j (from + l) = subst (λ n. IsProperTriple n i j (from + l)) (sym p.step.nodes) t in
       elim (cases_eq l lane) [
-        | inl same ↦ λ _ _. rw (sym same) at (h (rw same at t'))
-        | inr ne ↦ IsSettledAt-step m b c i j (from + l) q t' (p.settled l small (λ has. none (out.others l has ne)) t)
+        | inl same ↦ rw (sym same) at (h (rw same at t') (rw same at among))
+        | inr ne ↦ IsSettledAt-step m b c i j (from + l) q t' (p.settled l small (λ has. none (out.others l has ne)) t among)
       ];
 }
 
 -- ---- blocks one after another
 
--- the pairs (i, q) with q below k were narrowed along j
-pub record IsPropagated (m : Algebra) (old new : Worklist) (i j k : ℕ) : Type 0 where
+-- the pairs (i, q) with q in the range and below k were narrowed along j
+pub record IsPropagated (m : Algebra) (span : Span) (old new : Worklist) (i j k : ℕ) : Type 0 where
   pub step : IsStep m old new
-  pub settled : (q : ℕ) → q < k → IsProperTriple old.nodes i j q → IsSettledAt m new i j q
+  pub settled : (q : ℕ) → q < k → IsProperTriple old.nodes i j q → IsAmong span q → IsSettledAt m new i j q
 
-pub IsPropagated-block : (m : Algebra) (a b c : Worklist) (i j block : ℕ) → IsPropagated m a b i j (16 * block) → IsStep m b c →
-    ((l : ℕ) → l < 16 → IsProperTriple b.nodes i j (16 * block + l) → IsSettledAt m c i j (16 * block + l)) → IsPropagated m a c i j (16 * (block + 1))
-IsPropagated-block m a b c i j block p q h = record {
+pub IsPropagated-block : (m : Algebra) (span : Span) (a b c : Worklist) (i j block : ℕ) → IsPropagated m span a b i j (16 * block) → IsStep m b c →
+    ((l : ℕ) → l < 16 → IsProperTriple b.nodes i j (16 * block + l) → IsAmong span (16 * block + l) → IsSettledAt m c i j (16 * block + l)) → IsPropagated m span a c i j (16 * (block + 1))
+IsPropagated-block m span a b c i j block p q h = record {
   step = IsStep-trans m a b c p.step q;
-  settled = λ d l t.
+  settled = λ d l t among.
       let t' : IsProperTriple b.nodes i j d = subst (λ n. IsProperTriple n i j d) (sym p.step.nodes) t in
       elim (cases_lt d (16 * block)) [
-        | inl below ↦ IsSettledAt-step m b c i j d q t' (p.settled d below t)
+        | inl below ↦ IsSettledAt-step m b c i j d q t' (p.settled d below t among)
         | inr above ↦
             (let at : 16 * block + (d - 16 * block) ≡ d = omega arith in
-            subst (IsSettledAt m c i j) at (h (d - 16 * block) (omega arith) (subst (IsProperTriple b.nodes i j) (sym at) t')))
+            subst (IsSettledAt m c i j) at (h (d - 16 * block) (omega arith) (subst (IsProperTriple b.nodes i j) (sym at) t') (subst (IsAmong span) (sym at) among)))
       ];
 }

@@ -15,6 +15,7 @@ use Rattle.network_words.proofs.Networks.{relation_between-forward, relation_bet
 use Rattle.network_words.proofs.Pairs.{pair-ordered, pair-first, pair-second, pair-outer, pair-from_edge}
 use Rattle.network_words.proofs.Refinements.{relation_between-same}
 use Rattle.closure_seq.specs.Worklist.{Worklist, IsSized, edge_place, set_of, with_pair}
+use Rattle.closure_seq.specs.declared.span.Span.{Span}
 use Rattle.closure_seq.specs.Propagation.{AreConverses, IsInStep, IsStep, AreClosed, IsSettled}
 use Rattle.closure_seq.specs.Paths.{IsInStepBut, IsQuiet}
 use Rattle.closure_seq.proofs.Places.{same-cases, same-place, mark-kept, pair-from_place, edge_place-inside}
@@ -152,8 +153,8 @@ AreClosed-in_step m n words work s closed = λ i j k t'.
     rw (s.sets i k (pair-outer n i j k t), s.sets i j (pair-first n i j k t), s.sets j k (pair-second n i j k t)) (closed.each i j k t)
 
 -- where its edge is queued, each triple is settled
-pub IsSettled-refined : (m : Algebra) (work : Worklist) (i j x : ℕ) → AreConverses m work → IsSized work → IsProperPair work.nodes i j → IsWithin x (set_of work i j) → AreClosed m work → IsSettled m (refined m work i j x)
-IsSettled-refined m work i j x v z p w closed = λ a b c t quiet quiet'.
+pub IsSettled-refined : (m : Algebra) (work : Worklist) (i j x : ℕ) → AreConverses m work → IsSized work → IsProperPair work.nodes i j → IsWithin x (set_of work i j) → AreClosed m work → (rows : Span) → IsSettled m rows (refined m work i j x)
+IsSettled-refined m work i j x v z p w closed rows = λ a b c t _ quiet quiet'.
     let n = work.nodes in
     let queued = λ (d e : ℕ) (same : IsSamePair d e i j).
     let inside : edge_place i j < length work.queued = omega (arith, z.queued_length, edge_place-inside n i j z.bounded p) in

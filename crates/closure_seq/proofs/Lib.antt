@@ -12,3 +12,4 @@ pub mod InStep
 pub mod Standing
 pub mod Rows
 pub mod Counted
+pub mod Copies

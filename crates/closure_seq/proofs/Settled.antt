@@ -11,47 +11,57 @@ use Rattle.calculus_table.proofs.Compositions.{converse-mono, converse-compositi
 use Rattle.network_words.specs.Edge.{IsProperPair, IsProperTriple, IsSamePair}
 use Rattle.network_words.proofs.Pairs.{pair-first, pair-second, pair-outer, triple-swap}
 use Rattle.closure_seq.specs.Worklist.{Worklist, IsSized, IsQueued, IsIdle, edge_place, set_of, work_left}
-use Rattle.closure_seq.specs.Propagation.{AreConverses, IsReady, IsStep, HasEmpty, IsClosedAlong, IsSettledAt, IsSettled, IsSettledBut}
+use Rattle.closure_seq.specs.declared.span.Span.{Span}
+use Rattle.closure_seq.specs.Propagation.{AreConverses, IsReady, IsStep, HasEmpty, IsClosedAlong, AreClosed, AreRowsClosed, IsSettledAt, IsSettled, IsSettledBut, IsCharged, all_nodes}
 use Rattle.closure_seq.proofs.Places.{edge_place-inside, same-cases, mark-kept, count-cleared, IsQueued-swap, pair-from_place}
-use Rattle.closure_seq.proofs.Steps.{refined, IsStep-refined, refined-first, refined-other}
+use Rattle.closure_seq.specs.Copies.{IsMet}
+use Rattle.closure_seq.proofs.Steps.{refined, IsMet-step, IsStep-refined, refined-first, refined-other}
 
 -- ---- one triple narrowed
 
-module _ (m : Algebra) (work : Worklist) (i j k : ℕ) (c : IsCalculus m) (s : AreConverses m work) (z : IsSized work) (t : IsProperTriple work.nodes i j k) where
-  pub IsClosedAlong-met : bit_and (set_of work i k) (composition m (set_of work i j) (set_of work j k)) ≡ set_of work i k → IsClosedAlong m work i j k
-  IsClosedAlong-met e = within-meet _ _ e
-
-  pub IsStep-narrowed : bit_and (set_of work i k) (composition m (set_of work i j) (set_of work j k)) ≢ set_of work i k →
-      IsStep m work (refined m work i k (bit_and (set_of work i k) (composition m (set_of work i j) (set_of work j k))))
+-- by the composition of a set that contains that of (i, j)
+module _ (m : Algebra) (work : Worklist) (i j k a : ℕ) (c : IsCalculus m) (s : AreConverses m work) (z : IsSized work) (t : IsProperTriple work.nodes i j k)
+    (aw : IsWithin (set_of work i j) a) where
+  IsStep-narrowed : bit_and (set_of work i k) (composition m a (set_of work j k)) ≢ set_of work i k →
+      IsStep m work (refined m work i k (bit_and (set_of work i k) (composition m a (set_of work j k))))
   IsStep-narrowed ne =
       let n = work.nodes in
       IsStep-refined m work i k _ c s z (pair-outer n i j k t) (IsWithin-meet_l _ _) ne (λ words net closed inside.
       IsWithin-meet _ _ _ (inside i k (pair-outer n i j k t))
-      (IsWithin-trans _ _ _ (closed.each i j k t) (composition-mono m _ _ _ _ c.table (inside i j (pair-first n i j k t)) (inside j k (pair-second n i j k t)))))
+      (IsWithin-trans _ _ _ (closed.each i j k t) (composition-mono m _ _ _ _ c.table (IsWithin-trans _ _ _ (inside i j (pair-first n i j k t)) aw) (inside j k (pair-second n i j k t)))))
 
-  pub IsClosedAlong-narrowed : IsClosedAlong m (refined m work i k (bit_and (set_of work i k) (composition m (set_of work i j) (set_of work j k)))) i j k
-  IsClosedAlong-narrowed =
+  IsClosedAlong-narrowed : a ≡ set_of work i j → IsClosedAlong m (refined m work i k (bit_and (set_of work i k) (composition m a (set_of work j k)))) i j k
+  IsClosedAlong-narrowed same =
       let n = work.nodes in
-      let w = IsWithin-meet_l (set_of work i k) (composition m (set_of work i j) (set_of work j k)) in
+      let w = IsWithin-meet_l (set_of work i k) (composition m a (set_of work j k)) in
       let p = pair-outer n i j k t in
       rw (
         refined-first m work i k _ c s z p w,
         refined-other m work i k _ c s z p w i j (pair-first n i j k t) (λ e. elim e [ inl u ↦ t.second_third u.1 | inr u ↦ t.first_third u.0 ]),
         refined-other m work i k _ c s z p w j k (pair-second n i j k t) (λ e. elim e [ inl u ↦ t.first_second (sym u.0) | inr u ↦ t.second_third u.0 ]),
+        sym same,
       )
-      (IsWithin-meet_r (set_of work i k) (composition m (set_of work i j) (set_of work j k)))
+      (IsWithin-meet_r (set_of work i k) (composition m a (set_of work j k)))
 
 -- the same by what was read and computed
-module _ (m : Algebra) (work new : Worklist) (i j k x : ℕ) (c : IsCalculus m) (s : AreConverses m work) (z : IsSized work) (t : IsProperTriple work.nodes i j k)
-    (e : x ≡ bit_and (set_of work i k) (composition m (set_of work i j) (set_of work j k))) (stored : new ≡ refined m work i k x) where
-  pub step-read : x ≢ set_of work i k → IsStep m work new
-  step-read ne = rw (stored, e) (IsStep-narrowed m work i j k c s z t (λ h. ne (e ∙ h)))
+module _ (m : Algebra) (work new : Worklist) (i j k a x : ℕ) (c : IsCalculus m) (s : AreConverses m work) (z : IsSized work) (t : IsProperTriple work.nodes i j k)
+    (aw : IsWithin (set_of work i j) a) (set-is : ¬ IsQueued work i j → a ≡ set_of work i j)
+    (e : x ≡ bit_and (set_of work i k) (composition m a (set_of work j k))) where
+  -- where nothing became smaller
+  pub settled-same : x ≡ set_of work i k → IsSettledAt m work i j k
+  settled-same same = λ quiet _.
+      subst (λ b. IsWithin (set_of work i k) (composition m b (set_of work j k))) (set-is quiet) (within-meet _ _ (sym e ∙ same))
 
-  pub closed-read : IsClosedAlong m new i j k
-  closed-read = rw (stored, e) (IsClosedAlong-narrowed m work i j k c s z t)
+  pub step-read : new ≡ refined m work i k x → x ≢ set_of work i k → IsStep m work new
+  step-read stored ne = rw (stored, e) (IsStep-narrowed m work i j k a c s z t aw (λ h. ne (e ∙ h)))
 
-  pub empty-read : x ≡ 0 → HasEmpty new
-  empty-read none =
+  pub settled-read : new ≡ refined m work i k x → x ≢ set_of work i k → IsSettledAt m new i j k
+  settled-read stored ne = λ quiet _.
+      let same = set-is (λ w. quiet ((step-read stored ne).stays i j w)) in
+      rw (stored, e) (IsClosedAlong-narrowed m work i j k a c s z t aw same)
+
+  pub empty-read : new ≡ refined m work i k x → x ≡ 0 → HasEmpty new
+  empty-read stored none =
       let p = pair-outer work.nodes i j k t in
       rw stored (record { first = i; second = k; proper = p; empty = refined-first m work i k x c s z p (subst (λ y. IsWithin y (set_of work i k)) (sym e) (IsWithin-meet_l _ _)) ∙ none })
 
@@ -67,36 +77,48 @@ IsSettledAt-swap : (m : Algebra) (work : Worklist) (i j k : ℕ) → IsCalculus 
 IsSettledAt-swap m work i j k c s t h = λ p q.
     IsClosedAlong-swap m work i j k c s t (h (λ w. q (IsQueued-swap work i j t.first_second w)) (λ w. p (IsQueued-swap work j k t.second_third w)))
 
--- a step keeps each triple settled
-pub IsSettledAt-step : (m : Algebra) (old new : Worklist) (i j k : ℕ) → IsStep m old new → IsProperTriple old.nodes i j k → IsSettledAt m old i j k → IsSettledAt m new i j k
-IsSettledAt-step m old new i j k p t h = λ q r.
+-- sets made smaller leave each triple settled
+IsSettledAt-met : (m : Algebra) (old new : Worklist) (i j k : ℕ) → IsMet m old new → IsProperTriple old.nodes i j k → IsSettledAt m old i j k → IsSettledAt m new i j k
+IsSettledAt-met m old new i j k p t h = λ q r.
     let n = old.nodes in
     let closed = h (λ w. q (p.stays i j w)) (λ w. r (p.stays j k w)) in
     let ij = p.same i j (pair-first n i j k t) q in
     let jk = p.same j k (pair-second n i j k t) r in
     rw (ij, jk) (IsWithin-trans _ _ _ (p.within i k (pair-outer n i j k t)) closed)
 
+IsCharged-swap : (rows : Span) (i k : ℕ) → IsCharged rows i k → IsCharged rows k i
+IsCharged-swap rows i k h = record { first_from = h.second_from; second_from = h.first_from; lesser_below = elim h.lesser_below [ inl l ↦ inr l | inr l ↦ inl l ] }
+
+pub IsSettledAt-step : (m : Algebra) (old new : Worklist) (i j k : ℕ) → IsStep m old new → IsProperTriple old.nodes i j k → IsSettledAt m old i j k → IsSettledAt m new i j k
+IsSettledAt-step m old new i j k p = IsSettledAt-met m old new i j k (IsMet-step m old new p)
+
+pub IsSettled-met : (m : Algebra) (rows : Span) (old new : Worklist) → IsMet m old new → IsSettled m rows old → IsSettled m rows new
+IsSettled-met m rows old new p h = λ i j k t' e.
+    let t : IsProperTriple old.nodes i j k = subst (λ n. IsProperTriple n i j k) p.nodes t' in
+    IsSettledAt-met m old new i j k p t (h i j k t e)
+
 -- after the triples of an edge were propagated, both ways, every triple is settled
-pub IsSettled-propagated : (m : Algebra) (a b c : Worklist) (i j : ℕ) → IsCalculus m → IsSized a → IsProperPair a.nodes i j → IsSettledBut m a i j →
-    IsStep m a b → ((k : ℕ) → IsProperTriple a.nodes i j k → IsSettledAt m b i j k) →
-    IsStep m b c → ((k : ℕ) → IsProperTriple b.nodes j i k → IsSettledAt m c j i k) → IsSettled m c
-IsSettled-propagated m a b c i j k z pair but p first q second = λ x y w t'.
+pub IsSettled-propagated : (m : Algebra) (rows : Span) (a b c : Worklist) (i j : ℕ) → IsCalculus m → IsSized a → IsProperPair a.nodes i j → IsSettledBut m rows a i j →
+    IsStep m a b → ((k : ℕ) → IsProperTriple a.nodes i j k → IsCharged rows i k → IsSettledAt m b i j k) →
+    IsStep m b c → ((k : ℕ) → IsProperTriple b.nodes j i k → IsCharged rows j k → IsSettledAt m c j i k) → IsSettled m rows c
+IsSettled-propagated m rows a b c i j k z pair but p first q second = λ x y w t' h.
     let ba : b.nodes ≡ a.nodes = p.nodes in
     let cb : c.nodes ≡ b.nodes = q.nodes in
     let t : IsProperTriple a.nodes x y w = subst (λ n. IsProperTriple n x y w) (cb ∙ ba) t' in
-    let forward = λ (d : ℕ) (s : IsProperTriple a.nodes i j d). IsSettledAt-step m b c i j d q (subst (λ n. IsProperTriple n i j d) (sym ba) s) (first d s) in
-    let backward = λ (d : ℕ) (s : IsProperTriple a.nodes j i d). second d (subst (λ n. IsProperTriple n j i d) (sym ba) s) in
+    let forward = λ (d : ℕ) (s : IsProperTriple a.nodes i j d) (e : IsCharged rows i d). IsSettledAt-step m b c i j d q (subst (λ n. IsProperTriple n i j d) (sym ba) s) (first d s e) in
+    let backward = λ (d : ℕ) (s : IsProperTriple a.nodes j i d) (e : IsCharged rows j d). second d (subst (λ n. IsProperTriple n j i d) (sym ba) s) e in
+    let h' = IsCharged-swap rows x w h in
     elim (same-cases a.nodes x y i j z.bounded (pair-first a.nodes x y w t) pair) [
       | inl same ↦ elim same [
-        | inl s ↦ rw (s.0, s.1) (forward w (rw (s.0, s.1) at t))
-        | inr s ↦ rw (s.0, s.1) (backward w (rw (s.0, s.1) at t))
+        | inl s ↦ rw (s.0, s.1) (forward w (rw (s.0, s.1) at t) (rw s.0 at h))
+        | inr s ↦ rw (s.0, s.1) (backward w (rw (s.0, s.1) at t) (rw s.0 at h))
       ]
       | inr ne ↦ elim (same-cases a.nodes y w i j z.bounded (pair-second a.nodes x y w t) pair) [
         | inl same ↦ elim same [
-          | inl s ↦ rw (s.0, s.1) (IsSettledAt-swap m c j i x k q.sets (rw (s.0, s.1) at (triple-swap c.nodes x y w t')) (backward x (rw (s.0, s.1) at (triple-swap a.nodes x y w t))))
-          | inr s ↦ rw (s.0, s.1) (IsSettledAt-swap m c i j x k q.sets (rw (s.0, s.1) at (triple-swap c.nodes x y w t')) (forward x (rw (s.0, s.1) at (triple-swap a.nodes x y w t))))
+          | inl s ↦ rw (s.0, s.1) (IsSettledAt-swap m c j i x k q.sets (rw (s.0, s.1) at (triple-swap c.nodes x y w t')) (backward x (rw (s.0, s.1) at (triple-swap a.nodes x y w t)) (rw s.1 at h')))
+          | inr s ↦ rw (s.0, s.1) (IsSettledAt-swap m c i j x k q.sets (rw (s.0, s.1) at (triple-swap c.nodes x y w t')) (forward x (rw (s.0, s.1) at (triple-swap a.nodes x y w t)) (rw s.1 at h')))
         ]
-        | inr ne' ↦ IsSettledAt-step m b c x y w q (subst (λ n. IsProperTriple n x y w) (sym ba) t) (IsSettledAt-step m a b x y w p t (but x y w t ne ne'))
+        | inr ne' ↦ IsSettledAt-step m b c x y w q (subst (λ n. IsProperTriple n x y w) (sym ba) t) (IsSettledAt-step m a b x y w p t (but x y w t h ne ne'))
       ]
     ]
 
@@ -115,12 +137,12 @@ IsReady-queue m planes work queued r = record {
   sets = record { within = r.sets.within; converse = r.sets.converse };
 }
 
-pub IsSettledBut-popped : (m : Algebra) (work : Worklist) (i j : ℕ) → IsSized work → IsProperPair work.nodes i j → IsSettled m work → IsSettledBut m (popped work i j) i j
-IsSettledBut-popped m work i j z pair h = λ a b c t ne ne' p q.
+pub IsSettledBut-popped : (m : Algebra) (rows : Span) (work : Worklist) (i j : ℕ) → IsSized work → IsProperPair work.nodes i j → IsSettled m rows work → IsSettledBut m rows (popped work i j) i j
+IsSettledBut-popped m rows work i j z pair h = λ a b c t e ne ne' p q.
     let n = work.nodes in
     let kept = λ (x y : ℕ) (xy : IsProperPair n x y) (differ : ¬ IsSamePair x y i j) (w : IsQueued work x y).
-    mark-kept work.queued (edge_place i j) (edge_place x y) false w (inl (λ e. differ (pair-from_place n x y i j z.bounded xy pair e))) in
-    h a b c t (λ w. p (kept a b (pair-first n a b c t) ne w)) (λ w. q (kept b c (pair-second n a b c t) ne' w))
+    mark-kept work.queued (edge_place i j) (edge_place x y) false w (inl (λ d. differ (pair-from_place n x y i j z.bounded xy pair d))) in
+    h a b c t e (λ w. p (kept a b (pair-first n a b c t) ne w)) (λ w. q (kept b c (pair-second n a b c t) ne' w))
 
 pub work_left-popped : (work : Worklist) (i j : ℕ) → IsSized work → IsProperPair work.nodes i j → IsQueued work i j → work_left (popped work i j) < work_left work
 work_left-popped work i j z pair h =
@@ -135,6 +157,14 @@ quiet-idle work idle i j p w = elim (cases_lt i j) as (λ _. ⊥) [
   | inr g ↦ idle j p.second_below i (omega (arith, p.differ)) p.first_below (IsQueued-swap work i j p.differ w)
 ]
 
-pub IsClosedAlong-idle : (m : Algebra) (work : Worklist) → IsSettled m work → ((i : ℕ) → i < work.nodes → IsIdle work i) → (i j k : ℕ) → IsProperTriple work.nodes i j k → IsClosedAlong m work i j k
-IsClosedAlong-idle m work h idle i j k t =
-    h i j k t (quiet-idle work idle i j (pair-first work.nodes i j k t)) (quiet-idle work idle j k (pair-second work.nodes i j k t))
+pub AreRowsClosed-idle : (m : Algebra) (rows : Span) (work : Worklist) → IsSettled m rows work → ((i : ℕ) → i < work.nodes → IsIdle work i) → AreRowsClosed m rows work
+AreRowsClosed-idle m rows work h idle = λ i j k t e.
+    h i j k t e (quiet-idle work idle i j (pair-first work.nodes i j k t)) (quiet-idle work idle j k (pair-second work.nodes i j k t))
+
+-- ---- all rows
+
+IsCharged-all : (n i k : ℕ) → i < n → IsCharged (all_nodes n) i k
+IsCharged-all n i k b = record { first_from = omega arith; second_from = omega arith; lesser_below = inl b }
+
+pub AreClosed-all : (m : Algebra) (n : ℕ) (work : Worklist) → work.nodes ≡ n → AreRowsClosed m (all_nodes n) work → AreClosed m work
+AreClosed-all m n work e h = λ i j k t. h i j k t (IsCharged-all n i k (let b = t.first_below in omega (arith, b, e)))

@@ -14,6 +14,7 @@ use Rattle.network_words.proofs.Networks.{relation_between-forward, set-cases}
 use Rattle.network_words.proofs.Pairs.{pair-ordered}
 use Rattle.network_words.proofs.Refinements.{IsNetwork-refines}
 use Rattle.closure_seq.specs.Worklist.{Worklist, IsSized, set_of}
+use Rattle.closure_seq.specs.declared.span.Span.{Span}
 use Rattle.closure_seq.specs.Propagation.{AreConverses, IsReady, IsInStep, IsRefinement, HasEmpty, AreClosed, IsSettled}
 use Rattle.closure_seq.specs.Levels.{LevelSets}
 use Rattle.closure_seq.specs.Paths.{IsInStepBut, IsQuiet, IsPlanes, IsClosedNetwork, IsStanding, IsEmptyClosure}
@@ -135,7 +136,7 @@ module _ (m : Algebra) (work : Worklist) (levels : LevelSets) (bases : List ℕ)
     sets = AreConverses-in_step m levels.nodes (slice_set levels.top (edge_at levels.nodes i j) x) (refined m work i j x) s.calculus IsNetwork-narrowed IsInStep-narrowed;
   }
 
-  pub IsSettled-narrowed : IsSettled m (refined m work i j x)
+  pub IsSettled-narrowed : (rows : Span) → IsSettled m rows (refined m work i j x)
   IsSettled-narrowed = IsSettled-refined m work i j x converses z pair within-set (AreClosed-in_step m levels.nodes levels.top work s.in_step s.top.closed)
 
   module _ (work' : Worklist) (levels' : LevelSets) (r : IsRefinement m (refined m work i j x) work') (rest : levels' ≡ record levels { top = levels'.top; changes = levels'.changes })

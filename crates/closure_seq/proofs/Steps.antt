@@ -15,6 +15,7 @@ use Rattle.network_words.specs.Closure.{IsClosed}
 use Rattle.network_words.proofs.Networks.{relation_between-converse}
 use Rattle.closure_seq.specs.Worklist.{Worklist, IsSized, edge_place, set_of, with_pair}
 use Rattle.closure_seq.specs.Propagation.{AreConverses, IsReady, IsInside, IsStep, IsRefinement}
+use Rattle.closure_seq.specs.Copies.{IsMet}
 use Rattle.closure_seq.proofs.Places.{edge_place-inside, same-place, same-cases, mark-kept}
 
 -- ---- the sets of one pair written
@@ -86,6 +87,25 @@ IsStep-trans m a b c p q =
       less = let f = p.less in let g = q.less in omega arith;
     }
 
+-- sets made smaller, and more of them
+pub IsMet-step : (m : Algebra) (old new : Worklist) → IsStep m old new → IsMet m old new
+IsMet-step m old new p = record { nodes = p.nodes; planes = p.planes; sets = p.sets; within = p.within; stays = p.stays; same = p.same }
+
+pub IsMet-refl : (m : Algebra) (work : Worklist) → AreConverses m work → IsMet m work work
+IsMet-refl m work s = IsMet-step m work work (IsStep-refl m work s)
+
+pub IsMet-trans : (m : Algebra) (a b c : Worklist) → IsMet m a b → IsMet m b c → IsMet m a c
+IsMet-trans m a b c p q =
+    let pair = λ (i j : ℕ) (r : IsProperPair a.nodes i j). subst (λ n. IsProperPair n i j) (sym p.nodes) r in
+    record {
+      nodes = q.nodes ∙ p.nodes;
+      planes = q.planes ∙ p.planes;
+      sets = q.sets;
+      within = λ i j r. IsWithin-trans _ _ _ (q.within i j (pair i j r)) (p.within i j r);
+      stays = λ i j h. q.stays i j (p.stays i j h);
+      same = λ i j r quiet. q.same i j (pair i j r) quiet ∙ p.same i j r (λ h. quiet (q.stays i j h));
+    }
+
 pub IsReady-step : (m : Algebra) (planes : ℕ) (old new : Worklist) → IsReady m planes old → IsStep m old new → IsReady m planes new
 IsReady-step m planes old new r s = record { calculus = r.calculus; few = r.few; enough = r.enough; planes_are = s.planes ∙ r.planes_are; sets = s.sets }
 
@@ -139,6 +159,20 @@ module _ (m : Algebra) (work : Worklist) (i k x : ℕ) (c : IsCalculus m) (s : A
       swapped (inl e) = inr (e.1, e.0)
       swapped (inr e) = inl (e.1, e.0)
 
+  pub IsMet-refined : IsMet m work (refined m work i k x)
+  IsMet-refined =
+      let inside : edge_place i k < length work.queued = omega (arith, z.queued_length, edge_place-inside work.nodes i k z.bounded p) in
+      let turn : IsWithin (converse m x) (set_of work k i) = rw (s.converse i k p) (converse-mono m x _ w) in
+      record {
+        nodes = refl;
+        planes = refl;
+        sets = AreConverses-refined;
+        within = by_pair (λ a b y. IsWithin y (set_of work a b)) w turn (λ a b q ne'. IsWithin-refl _);
+        stays = λ a b h. mark-kept work.queued (edge_place i k) (edge_place a b) true h (inr refl);
+        same = λ a b q quiet. other a b q (λ t.
+            quiet (subst (λ e. get_or (set work.queued (edge_place i k) true) e false ≡ true) (sym (same-place a b i k p.differ t)) (get_or-set_same work.queued (edge_place i k) true false inside)));
+      }
+
   pub IsStep-refined : x ≢ set_of work i k → ((words : List ℕ) → IsNetwork m work.nodes words → IsClosed m work.nodes words → IsInside m words work → IsWithin (relation_between m work.nodes words i k) x) →
       IsStep m work (refined m work i k x)
   IsStep-refined ne keeps =
@@ -147,14 +181,13 @@ module _ (m : Algebra) (work : Worklist) (i k x : ℕ) (c : IsCalculus m) (s : A
       record {
         nodes = refl;
         planes = refl;
-        sets = AreConverses-refined;
-        within = by_pair (λ a b y. IsWithin y (set_of work a b)) w turn (λ a b q ne'. IsWithin-refl _);
+        sets = IsMet-refined.sets;
+        within = IsMet-refined.within;
         kept = λ words net closed all. by_pair (λ a b y. IsWithin (relation_between m work.nodes words a b) y) (keeps words net closed all)
             (rw (relation_between-converse m work.nodes words i k c net p.differ) (converse-mono m _ x (keeps words net closed all)))
             (λ a b q ne'. all a b q);
-        stays = λ a b h. mark-kept work.queued (edge_place i k) (edge_place a b) true h (inr refl);
-        same = λ a b q quiet. other a b q (λ t.
-            quiet (subst (λ e. get_or (set work.queued (edge_place i k) true) e false ≡ true) (sym (same-place a b i k p.differ t)) (get_or-set_same work.queued (edge_place i k) true false inside)));
+        stays = IsMet-refined.stays;
+        same = IsMet-refined.same;
         less =
             let le = IsWithin-le x (set_of work i k) w in
             let fewer = sum-with_pair work.sets work.nodes i k x (converse m x) z.bounded z.sets_length p (omega arith) (IsWithin-le _ _ turn) in

@@ -1,5 +1,5 @@
 -- What propagation does to the sets of pairs on the way to the closure of a network.
-use Rattle.std.specs.Prelude.{◌≡◌, ℕ, ◌*◌, ◌<◌, ◌≤◌, List, slice_index}
+use Rattle.std.specs.Prelude.{◌≡◌, ℕ, ◌*◌, ◌<◌, ◌≤◌, ◌⊎◌, List, slice_index}
 use Rattle.calculus_table.specs.Rel.{IsWithin}
 use Rattle.calculus_table.specs.Algebra.{Algebra}
 use Rattle.calculus_table.specs.Composition.{full_of, composition, converse}
@@ -8,6 +8,7 @@ use Rattle.network_words.specs.Edge.{edge_at, IsProperPair, IsProperTriple, IsSa
 use Rattle.network_words.specs.Network.{IsNetwork, relation_between}
 use Rattle.network_words.specs.Closure.{IsClosed}
 use Rattle.closure_seq.specs.Worklist.{Worklist, set_of, IsQueued, work_left}
+use Rattle.closure_seq.specs.declared.span.Span.{Span}
 
 -- sets of base relations, of which those of a pair are each other's converses
 pub record AreConverses (m : Algebra) (work : Worklist) : Type 0 where
@@ -70,6 +71,21 @@ pub record HasEmpty (work : Worklist) : Type 0 where
   pub proper : IsProperPair work.nodes first second
   pub empty : set_of work first second ≡ 0
 
+-- the node k is in the range
+pub record IsAmong (span : Span) (k : ℕ) : Type 0 where
+  pub from : span.first ≤ k
+  pub below : k < span.end
+
+-- the pair (i, k) belongs to a range of rows: the lesser of the two nodes is in it
+pub record IsCharged (rows : Span) (i k : ℕ) : Type 0 where
+  pub first_from : rows.first ≤ i
+  pub second_from : rows.first ≤ k
+  pub lesser_below : (i < rows.end) ⊎ (k < rows.end)
+
+-- all of n nodes
+abbrev pub all_nodes : ℕ → Span
+all_nodes n = record { first = 0; end = n }
+
 -- the set of (i, k) is within the composition along j
 abbrev pub IsClosedAlong : Algebra → Worklist → ℕ → ℕ → ℕ → Type 0
 IsClosedAlong m work i j k = IsWithin (set_of work i k) (composition m (set_of work i j) (set_of work j k))
@@ -78,14 +94,18 @@ IsClosedAlong m work i j k = IsWithin (set_of work i k) (composition m (set_of w
 abbrev pub AreClosed : Algebra → Worklist → Type 0
 AreClosed m work = (i j k : ℕ) → IsProperTriple work.nodes i j k → IsClosedAlong m work i j k
 
+-- every triple whose outer pair belongs to the rows is closed
+abbrev pub AreRowsClosed : Algebra → Span → Worklist → Type 0
+AreRowsClosed m rows work = (i j k : ℕ) → IsProperTriple work.nodes i j k → IsCharged rows i k → IsClosedAlong m work i j k
+
 -- unless one of its two source edges is queued, the triple is closed
 abbrev pub IsSettledAt : Algebra → Worklist → ℕ → ℕ → ℕ → Type 0
 IsSettledAt m work i j k = ¬ IsQueued work i j → ¬ IsQueued work j k → IsClosedAlong m work i j k
 
--- and so is each triple
-abbrev pub IsSettled : Algebra → Worklist → Type 0
-IsSettled m work = (i j k : ℕ) → IsProperTriple work.nodes i j k → IsSettledAt m work i j k
+-- and so is each triple whose outer pair belongs to the rows
+abbrev pub IsSettled : Algebra → Span → Worklist → Type 0
+IsSettled m rows work = (i j k : ℕ) → IsProperTriple work.nodes i j k → IsCharged rows i k → IsSettledAt m work i j k
 
--- and so is each triple of which the edge between i and j is no source
-abbrev pub IsSettledBut : Algebra → Worklist → ℕ → ℕ → Type 0
-IsSettledBut m work i j = (a b c : ℕ) → IsProperTriple work.nodes a b c → ¬ IsSamePair a b i j → ¬ IsSamePair b c i j → IsSettledAt m work a b c
+-- and so is each of these of which the edge between i and j is no source
+abbrev pub IsSettledBut : Algebra → Span → Worklist → ℕ → ℕ → Type 0
+IsSettledBut m rows work i j = (a b c : ℕ) → IsProperTriple work.nodes a b c → IsCharged rows a c → ¬ IsSamePair a b i j → ¬ IsSamePair b c i j → IsSettledAt m work a b c

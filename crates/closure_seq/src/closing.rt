@@ -8,9 +8,10 @@ ghost use Rattle.network_words.specs.Network.{Network, IsNetwork};
 ghost use Rattle.network_words.specs.Closure.{IsClosure};
 ghost use Rattle.closure_seq.specs.Worklist.{Room, Worklist};
 
-use crate::loading::{load, store};
+use crate::loading::{load_queued, store};
 use crate::pairs::PairSets;
 use crate::propagation::{Emptied, propagate_all};
+use crate::span::all_nodes;
 use crate::work::Work;
 use calculus_table::{Compose, Memory, Rel, lawful};
 use compose_fast::Tables;
@@ -45,11 +46,9 @@ fn close_planes<C: Compose, const P: usize>(
     ensures nodes { pairs.new.nodes ≡ pairs.old.nodes }
 {
     lawful(c);
-    tables.fill::<C, P>(c);
-    pairs.set_planes(P);
-    load::<C, P>(pairs, net, c);
-    pairs.push_lesser(c.full());
-    if let Err(Emptied) = propagate_all::<C, P>(pairs, tables, c) {
+    load_queued::<C, P>(pairs, tables, net.words(), c);
+    let rows = all_nodes(pairs.nodes());
+    if let Err(Emptied) = propagate_all::<C, P>(pairs, tables, c, rows) {
         empty_all(net);
     } else {
         store(net, pairs);

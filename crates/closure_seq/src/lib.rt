@@ -1,6 +1,8 @@
 //! Algebraic closure of networks on one thread.
 //!
 //! - [`close`] and [`close_with`] turn a network into its closure.
+//! - [`SliceCopy`] closes a slice of the edges on a copy of the sets, for those who narrow words that others narrow
+//!   too.
 //! - [`ClosedPath`] is a path of closed networks for a search: it narrows an edge and closes again, and takes that
 //!   back.
 //!
@@ -14,17 +16,22 @@
 #![tactic(auto)]
 
 mod closing;
+mod copy;
 mod levels;
 mod loading;
+mod meeting;
 mod narrowing;
 mod order;
 mod pairs;
 mod path;
 mod propagation;
+mod span;
 mod work;
 
 pub use closing::{close, close_with};
+pub use copy::SliceCopy;
 pub use levels::Change;
+pub use pairs::Note;
 pub use path::ClosedPath;
 pub use work::Work;
 

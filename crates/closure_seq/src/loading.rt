@@ -1,17 +1,19 @@
 //! The sets of a network's pairs, taken from its words and stored into them again.
 
-ghost use Rattle.std.specs.Prelude.{◌≡◌, ◌+◌, ◌<◌, length};
+ghost use Rattle.std.specs.Prelude.{◌≡◌, ℕ, ◌+◌, ◌<◌, ◌≤◌, length, slice_index, IsTrue};
 ghost use Rattle.calculus_table.specs.Calculus.{IsCalculus};
 ghost use Rattle.calculus_table.specs.Rel.{IsWithin};
 ghost use Rattle.calculus_table.specs.Composition.{full_of, converse};
-ghost use Rattle.network_words.specs.Edge.{edge_count};
+ghost use Rattle.network_words.specs.Edge.{edge_count, edge_at};
 ghost use Rattle.network_words.specs.Network.{Network, IsNetwork, relation_between};
-ghost use Rattle.closure_seq.specs.Worklist.{Worklist, IsSized, with_pair};
+ghost use Rattle.compose_fast.specs.Planes.{AreBaseTables};
+ghost use Rattle.closure_seq.specs.Worklist.{Worklist, IsSized, IsBegun, set_of, with_pair};
 ghost use Rattle.closure_seq.specs.Propagation.{IsInStep, IsLoaded, IsStored};
 
 use crate::pairs::PairSets;
 use calculus_table::{Compose, Rel, lawful};
-use network_words::{Net, edge_between};
+use compose_fast::Tables;
+use network_words::{Net, edge_between, relation_between};
 
 /// The set of the identity.
 fn identity_of<C: Compose>(c: &C) -> Rel {
@@ -33,54 +35,51 @@ fn converse_of<C: Compose>(c: &C, rel: Rel) -> Rel
 }
 
 /// Loads the sets of the pair `(i, j)`, both ways.
-fn load_pair<C: Compose, const P: usize>(work: &mut PairSets, net: &Net, c: &C, i: u32, j: u32)
+fn load_pair<C: Compose, const P: usize>(work: &mut PairSets, words: &[u64], c: &C, i: u32, j: u32)
     requires planes { work.old.planes ≡ P }
-    requires nodes { work.old.nodes ≡ net.now.nodes }
-    requires network { IsNetwork (C.algebra c.now) net.now.nodes net.now.words }
+    requires network { IsNetwork (C.algebra c.now) work.old.nodes words.now }
     requires order { i < j }
-    requires below { j < net.now.nodes }
+    requires below { j < work.old.nodes }
     ensures value { work.new ≡ record work.old {
       sets = with_pair work.old.sets i j
-          (relation_between (C.algebra c.now) net.now.nodes net.now.words i j)
-          (relation_between (C.algebra c.now) net.now.nodes net.now.words j i);
+          (relation_between (C.algebra c.now) work.old.nodes words.now i j)
+          (relation_between (C.algebra c.now) work.old.nodes words.now j i);
     } }
     ensures sized { IsSized work.old }
 {
     lawful(c);
-    let rel = net.get(c, i, j);
+    let rel = relation_between(c, work.nodes(), words, i, j);
     work.put::<P>(i, j, rel);
     work.put::<P>(j, i, converse_of(c, rel));
 }
 
 /// Loads the sets of the pairs of node `i` with greater ones, and the identity as that of `i` with itself.
-fn load_row<C: Compose, const P: usize>(work: &mut PairSets, net: &Net, c: &C, i: u32)
+fn load_row<C: Compose, const P: usize>(work: &mut PairSets, words: &[u64], c: &C, i: u32)
     requires planes { work.old.planes ≡ P }
-    requires nodes { work.old.nodes ≡ net.now.nodes }
-    requires network { IsNetwork (C.algebra c.now) net.now.nodes net.now.words }
-    requires below { i < net.now.nodes }
-    requires before { IsLoaded (C.algebra c.now) net.now.nodes net.now.words work.old i }
+    requires network { IsNetwork (C.algebra c.now) work.old.nodes words.now }
+    requires below { i < work.old.nodes }
+    requires before { IsLoaded (C.algebra c.now) work.old.nodes words.now work.old i }
     ensures nodes { work.new.nodes ≡ work.old.nodes }
     ensures planes { work.new.planes ≡ work.old.planes }
-    ensures loaded { IsLoaded (C.algebra c.now) net.now.nodes net.now.words work.new (i + 1) }
+    ensures loaded { IsLoaded (C.algebra c.now) work.old.nodes words.now work.new (i + 1) }
 {
     work.put::<P>(i, i, identity_of(c));
     let nodes = work.nodes();
     for j in i + 1..nodes {
-        load_pair::<C, P>(work, net, c, i, j);
+        load_pair::<C, P>(work, words, c, i, j);
     }
 }
 
-/// Loads the sets of all pairs.
-pub(crate) fn load<C: Compose, const P: usize>(work: &mut PairSets, net: &Net, c: &C)
+/// Loads the sets of all pairs from the words of a network.
+pub(crate) fn load<C: Compose, const P: usize>(work: &mut PairSets, words: &[u64], c: &C)
     requires planes { work.old.planes ≡ P }
-    requires nodes { work.old.nodes ≡ net.now.nodes }
-    requires network { IsNetwork (C.algebra c.now) net.now.nodes net.now.words }
+    requires network { IsNetwork (C.algebra c.now) work.old.nodes words.now }
     ensures planes { work.new.planes ≡ P }
-    ensures in_step { IsInStep (C.algebra c.now) net.now.nodes net.now.words work.new }
+    ensures in_step { IsInStep (C.algebra c.now) work.old.nodes words.now work.new }
 {
     let nodes = work.nodes();
     for i in 0..nodes {
-        load_row::<C, P>(work, net, c, i);
+        load_row::<C, P>(work, words, c, i);
     }
 }
 
@@ -110,4 +109,56 @@ pub(crate) fn store(net: &mut Net, work: &PairSets)
     for i in 0..nodes {
         store_row(net, work, i);
     }
+}
+
+/// Whether the words of node `i` with greater ones are the sets of their pairs.
+fn is_stored_row(words: &[u64], work: &PairSets, i: u32) -> bool
+    requires length_is { length words.now ≡ edge_count work.now.nodes }
+    requires below { i < work.now.nodes }
+    ensures { IsTrue result → (j : ℕ) → i < j → j < work.now.nodes →
+        slice_index words.now (edge_at work.now.nodes i j) ≡ set_of work.now i j }
+{
+    let nodes = work.nodes();
+    for j in i + 1..nodes {
+        if words[edge_between(nodes, i, j) as usize] != work.set(i, j).word() {
+            return false;
+        }
+    }
+    true
+}
+
+/// Whether the words are the sets of their pairs.
+pub(crate) fn is_stored(words: &[u64], work: &PairSets) -> bool
+    requires { length words.now ≡ edge_count work.now.nodes }
+    ensures { IsTrue result → IsStored work.now.nodes words.now work.now work.now.nodes }
+{
+    let nodes = work.nodes();
+    for i in 0..nodes {
+        if !is_stored_row(words, work, i) {
+            return false;
+        }
+    }
+    true
+}
+
+/// Loads the sets of all pairs into `P` planes, makes the tables of the calculus, and queues the edges whose set isn't
+/// full.
+pub(crate) fn load_queued<C: Compose, const P: usize>(
+    work: &mut PairSets,
+    tables: &mut Tables,
+    words: &[u64],
+    c: &C,
+)
+    requires few { P ≤ 8 }
+    requires network { IsNetwork (C.algebra c.now) work.old.nodes words.now }
+    ensures planes { work.new.planes ≡ P }
+    ensures in_step { IsInStep (C.algebra c.now) work.old.nodes words.now work.new }
+    ensures begun { IsBegun work.new (full_of (C.algebra c.now)) work.new.nodes }
+    ensures tables { AreBaseTables (C.algebra c.now) P tables.new.bases }
+{
+    lawful(c);
+    tables.fill::<C, P>(c);
+    work.set_planes(P);
+    load::<C, P>(work, words, c);
+    work.push_lesser(c.full());
 }

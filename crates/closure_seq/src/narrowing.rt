@@ -17,12 +17,14 @@ ghost use Rattle.network_words.specs.Closure.{IsClosure};
 ghost use Rattle.compose_fast.specs.Planes.{AreBaseTables};
 ghost use Rattle.closure_seq.specs.Worklist.{Worklist, set_of, edge_place};
 ghost use Rattle.closure_seq.specs.Propagation.{IsReady, IsInStep, IsRefinement, HasEmpty, AreClosed, IsSettled};
+ghost use Rattle.closure_seq.specs.Propagation.{all_nodes};
 ghost use Rattle.closure_seq.specs.Levels.{LevelSets};
 ghost use Rattle.closure_seq.specs.Paths.{IsInStepBut, IsQuiet, IsStanding, IsEmptyClosure};
 
 use crate::levels::Levels;
 use crate::pairs::PairSets;
 use crate::propagation::{Emptied, propagate, put_pair, refine};
+use crate::span::all_nodes;
 use calculus_table::{Compose, Memory, Rel, lawful};
 use compose_fast::Tables;
 
@@ -127,7 +129,7 @@ fn propagate_level<C: Compose, const P: usize>(
     levels: &mut Levels,
 ) -> Result<(), Halt>
     requires ready { IsReady (C.algebra c.now) P pairs.old }
-    requires settled { IsSettled (C.algebra c.now) pairs.old }
+    requires settled { IsSettled (C.algebra c.now) (all_nodes pairs.old.nodes) pairs.old }
     requires tables { AreBaseTables (C.algebra c.now) P tables.old.bases }
     requires full { levels.old.full ≡ full_of (C.algebra c.now) }
     requires in_step { IsInStepBut (C.algebra c.now) levels.old.nodes levels.old.top pairs.old }
@@ -140,11 +142,12 @@ fn propagate_level<C: Compose, const P: usize>(
     ensures length_is { length levels.new.top ≡ length levels.old.top }
     ensures tables { tables.new.bases ≡ tables.old.bases }
 {
+    let rows = all_nodes(pairs.nodes());
     while let Some((i, j)) = pairs.pop() {
         if let Err(Memory) = store_set(pairs, levels, i, j) {
             return Err(Halt::Memory);
         }
-        if let Err(Emptied) = propagate::<C, P>(pairs, tables, c, i, j) {
+        if let Err(Emptied) = propagate::<C, P>(pairs, tables, c, rows, i, j) {
             return Err(Halt::Emptied);
         }
     }

@@ -5,13 +5,13 @@
 //! The place of an edge is `i * width + j`, where the width is the least power of two of 16 and more that the nodes
 //! fit in: so the room for few nodes is small, and a place is taken apart without a division.
 
-ghost use Rattle.std.specs.Prelude.{◌≡◌, ◌<◌, ◌≤◌};
+ghost use Rattle.std.specs.Prelude.{◌<◌, ◌≤◌};
 
 use calculus_table::Memory;
 use compose_fast::filled;
 use std::alloc::Global;
 
-/// No place, or no list.
+/// No place, or no list. No edge has this place, since it would be of a node with itself.
 const NONE: u16 = 65535;
 
 /// The power of two that is the width for so many nodes.
@@ -27,34 +27,30 @@ fn shift_for(nodes: u32) -> u32
     }
 }
 
-/// The link at a place, if there is one.
-#[inline(always)]
-fn link_at(links: &[u16], place: u16) -> u16 {
-    let place = place as usize;
-    if place < links.len() {
-        links[place]
-    } else {
-        NONE
-    }
+/// Where a place stands in its list.
+#[derive(Clone, Copy, Debug, Drop)]
+struct Link {
+    /// The place after it.
+    next: u16,
+    /// The place before it.
+    back: u16,
+    /// The number of the list.
+    list: u16,
 }
 
-/// Sets the link at a place, if there is one.
-#[inline(always)]
-fn set_link(links: &mut [u16], place: u16, to: u16) {
-    let place = place as usize;
-    if place < links.len() {
-        links[place] = to;
-    }
-}
+/// A place that stands in no list.
+const UNLINKED: Link = Link {
+    next: NONE,
+    back: NONE,
+    list: NONE,
+};
 
 /// Doubly linked lists of places, one for each number of base relations.
 #[derive(Debug, Drop)]
 pub(crate) struct Order {
     shift: u32,
-    next: Vec<u16>,
-    back: Vec<u16>,
-    list: Vec<u16>,
-    first: Vec<u16>,
+    links: Vec<Link>,
+    first: [u16; 64],
     some: u64,
 }
 
@@ -65,16 +61,10 @@ impl Order {
     {
         let shift = shift_for(nodes);
         let blocks = ((nodes << shift) / 256 + 1) as usize;
-        let next = filled(alloc, NONE, blocks)?;
-        let back = filled(alloc, NONE, blocks)?;
-        let list = filled(alloc, NONE, blocks)?;
-        let first = filled(alloc, NONE, 1)?;
         Ok(Order {
             shift,
-            next,
-            back,
-            list,
-            first,
+            links: filled(alloc, UNLINKED, blocks)?,
+            first: [NONE; 64],
             some: 0,
         })
     }
@@ -86,8 +76,8 @@ impl Order {
 
     /// Empties the lists.
     pub(crate) fn clear(&mut self) {
-        self.list.fill(NONE);
-        self.first.fill(NONE);
+        self.links.fill(UNLINKED);
+        self.first = [NONE; 64];
         self.some = 0;
     }
 
@@ -96,65 +86,70 @@ impl Order {
     pub(crate) fn put(&mut self, i: u32, j: u32, members: u32) {
         let place = (((i << self.shift % 32) | j) & 65535) as u16;
         let list = (members.saturating_sub(1) % 64) as u16;
-        let old = link_at(&self.list, place);
-        if old == list {
+        let Some(link) = self.links.get(usize::from(place)) else {
+            return;
+        };
+        if link.list == list {
             return;
         }
-        if old != NONE {
+        if link.list != NONE {
             self.unlink(place);
         }
         self.link(place, list);
     }
 
     /// Puts a place at the head of a list.
+    #[inline(always)]
     fn link(&mut self, place: u16, list: u16)
         requires { list < 64 }
     {
-        let head = link_at(&self.first, list);
-        set_link(&mut self.next, place, head);
-        set_link(&mut self.back, place, NONE);
-        set_link(&mut self.list, place, list);
-        set_link(&mut self.back, head, place);
-        set_link(&mut self.first, list, place);
+        let head = self.first[usize::from(list)];
+        if let Some(link) = self.links.get_mut(usize::from(place)) {
+            *link = Link {
+                next: head,
+                back: NONE,
+                list,
+            };
+        }
+        if let Some(after) = self.links.get_mut(usize::from(head)) {
+            after.back = place;
+        }
+        self.first[usize::from(list)] = place;
         self.some |= 1 << list;
     }
 
     /// Takes a place out of its list.
     fn unlink(&mut self, place: u16) {
-        let before = link_at(&self.back, place);
-        let after = link_at(&self.next, place);
-        let list = link_at(&self.list, place) % 64;
-        if before == NONE {
-            set_link(&mut self.first, list, after);
-            if after == NONE {
-                self.some &= !(1 << list);
-            }
-        } else {
-            set_link(&mut self.next, before, after);
+        let Some(link) = self.links.get_mut(usize::from(place)) else {
+            return;
+        };
+        let Link { next, back, list } = *link;
+        *link = UNLINKED;
+        if let Some(after) = self.links.get_mut(usize::from(next)) {
+            after.back = back;
         }
-        set_link(&mut self.back, after, before);
-        set_link(&mut self.list, place, NONE);
+        if back != NONE {
+            if let Some(before) = self.links.get_mut(usize::from(back)) {
+                before.next = next;
+            }
+            return;
+        }
+        self.first[usize::from(list % 64)] = next;
+        if next == NONE {
+            self.some &= !(1 << (list % 64));
+        }
     }
 
     /// Takes an edge out of the first list that has one.
     pub(crate) fn take(&mut self) -> Option<(u32, u32)> {
-        let place = u32::from(self.take_place()?);
-        let shift = self.shift % 32;
-        let i = place >> shift;
-        Some((i, place ^ (i << shift)))
-    }
-
-    /// Takes a place out of the first list that has one.
-    fn take_place(&mut self) -> Option<u16> {
         if self.some == 0 {
             return None;
         }
-        let list = self.some.trailing_zeros() as u16;
-        let place = link_at(&self.first, list);
-        if place == NONE {
-            return None;
-        }
+        let place = self.first[(self.some.trailing_zeros() % 64) as usize];
         self.unlink(place);
-        Some(place)
+        let place = u32::from(place);
+        let shift = self.shift % 32;
+        let i = place >> shift;
+        Some((i, place ^ (i << shift)))
     }
 }

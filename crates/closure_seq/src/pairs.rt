@@ -12,6 +12,14 @@ use compose_fast::{filled, put_set};
 use std::alloc::Global;
 use std::marker::Model;
 
+/// A narrowing that made a set smaller: that of `(i, k)` along `j`.
+#[derive(Clone, Copy, Debug, PartialEq, Eq, Drop)]
+pub struct Note {
+    pub i: u8,
+    pub j: u8,
+    pub k: u8,
+}
+
 /// The sets of the ordered pairs of so many nodes, and the edges that are queued.
 #[derive(Debug, Drop)]
 pub(crate) struct PairSets {
@@ -23,6 +31,8 @@ pub(crate) struct PairSets {
     waiting: usize,
     order: Order,
     taken: u64,
+    notes: Vec<Note>,
+    noted: usize,
 }
 
 impl Model for PairSets {
@@ -68,7 +78,44 @@ impl PairSets {
             waiting: 0,
             order,
             taken: 0,
+            notes: Vec::new(alloc),
+            noted: 0,
         })
+    }
+
+    /// Makes room for so many blocks of 256 notes.
+    pub(crate) fn make_notes(&mut self, alloc: Global, blocks: usize) -> Result<(), Memory>
+        ensures { self.new ≡ self.old }
+    {
+        self.notes = filled(alloc, Note { i: 0, j: 0, k: 0 }, blocks)?;
+        Ok(())
+    }
+
+    /// Notes that the set of `(i, k)` was made smaller along `j`, if there is room.
+    #[inline(always)]
+    pub(crate) fn note(&mut self, i: u32, j: u32, k: u32)
+        ensures { self.new ≡ self.old }
+    {
+        if self.noted < self.notes.len() {
+            self.notes[self.noted] = Note {
+                i: (i & 255) as u8,
+                j: (j & 255) as u8,
+                k: (k & 255) as u8,
+            };
+            self.noted += 1;
+        }
+    }
+
+    /// What was noted, the first one first.
+    pub(crate) fn notes(&self) -> &[Note] {
+        self.notes.split_at(self.noted.min(self.notes.len())).0
+    }
+
+    /// Forgets what was noted.
+    pub(crate) fn forget_notes(&mut self)
+        ensures { self.new ≡ self.old }
+    {
+        self.noted = 0;
     }
 
     /// The number of nodes.
@@ -234,8 +281,29 @@ impl PairSets {
         Some((i, j))
     }
 
+    /// Takes an edge off the queue, where there is room for a note of each of its triples.
+    pub(crate) fn pop_noted(&mut self) -> Option<(u32, u32)>
+        ensures same { IfNone result (self.new ≡ self.old) }
+        ensures queued { IfSome result (λ e. IsWaiting self.old e.0 e.1) }
+        ensures taken { IfSome result (λ e. self.new ≡ record self.old {
+          queued = slice_set self.old.queued (edge_place e.0 e.1) false;
+        }) }
+        ensures sized { IsSized self.old }
+    {
+        if self.notes.len().saturating_sub(self.noted) < 2 * self.nodes as usize {
+            return None;
+        }
+        self.pop()
+    }
+
+    /// Whether no edge is queued.
+    pub(crate) fn is_idle(&self) -> bool
+        ensures { IsTrue result → (i : ℕ) → i < self.now.nodes → IsIdle self.now i }
+    {
+        self.waiting == 0
+    }
+
     /// How many edges were taken off the queue so far.
-    #[cfg(test)]
     pub(crate) fn taken(&self) -> u64 {
         self.taken
     }
@@ -251,14 +319,6 @@ impl PairSets {
         self.waiting = 0;
         self.queued.fill(false);
         self.order.clear();
-    }
-
-    /// The number of blocks of 16 nodes.
-    pub(crate) fn blocks(&self) -> u32
-        ensures enough { self.now.nodes ≤ 16 * result }
-        ensures few { result ≤ 16 }
-    {
-        (self.nodes + 15) / 16
     }
 
     /// Queues the edges from `i` to greater nodes whose set isn't `full`.

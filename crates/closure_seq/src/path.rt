@@ -13,10 +13,8 @@
 
 ghost use Rattle.std.specs.Prelude.{◌≡◌, ℕ, ◌*◌, ◌<◌, ◌≤◌};
 ghost use Rattle.calculus_table.specs.Calculus.{IsCalculus};
-ghost use Rattle.network_words.specs.Edge.{edge_count, edge_at};
 ghost use Rattle.network_words.specs.Network.{IsNetwork};
 ghost use Rattle.compose_fast.specs.Planes.{AreBaseTables};
-ghost use Rattle.network_words.specs.declared.TheConstants.{MAX_NODES};
 ghost use Rattle.closure_seq.specs.Worklist.{Worklist};
 ghost use Rattle.closure_seq.specs.Propagation.{IsInStep};
 ghost use Rattle.closure_seq.specs.Paths.{IsQuiet, IsPlanes};
@@ -26,28 +24,13 @@ use crate::levels::{Change, Levels};
 use crate::loading::load;
 use crate::narrowing::{Halt, begin_level, end_level};
 use crate::pairs::PairSets;
+use crate::span::nodes_of_edge;
 use crate::work::Work;
 use calculus_table::{Compose, Memory, Rel, lawful};
 use compose_fast::{Fast, Tables};
-use network_words::{Net, edge_between};
+use network_words::Net;
 use std::alloc::Global;
 use std::marker::Model;
-
-/// The nodes of an edge, the lesser first.
-fn nodes_of_edge(nodes: u32, edge: u32) -> (u32, u32)
-    requires few { nodes ≤ MAX_NODES }
-    requires below { edge < edge_count nodes }
-    ensures order { result.0 < result.1 }
-    ensures below { result.1 < nodes }
-    ensures edge { edge_at nodes result.0 result.1 ≡ edge }
-{
-    let last = nodes - 1;
-    let mut i = 0;
-    while edge_between(nodes, i, last) < edge {
-        i += 1;
-    }
-    (i, last - (edge_between(nodes, i, last) - edge))
-}
 
 /// Loads the sets of a closed network into `P` planes, with the tables of the calculus and an empty queue.
 fn load_closed<C: Compose, const P: usize>(
@@ -68,7 +51,7 @@ fn load_closed<C: Compose, const P: usize>(
     lawful(c);
     tables.fill::<C, P>(c);
     pairs.set_planes(P);
-    load::<C, P>(pairs, net, c);
+    load::<C, P>(pairs, net.words(), c);
     pairs.clear();
 }
 

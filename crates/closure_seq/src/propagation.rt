@@ -21,11 +21,13 @@ ghost use Rattle.calculus_table.specs.Composition.{full_of, converse};
 ghost use Rattle.network_words.specs.Edge.{IsProperPair, IsProperTriple};
 ghost use Rattle.compose_fast.specs.Planes.{AreBaseTables, AreTablesOf};
 ghost use Rattle.closure_seq.specs.Worklist.{Worklist, IsSized, IsQueued, IsIdle, set_of, edge_place, with_pair};
-ghost use Rattle.closure_seq.specs.Propagation.{IsReady, IsStep, IsRefinement, HasEmpty, AreClosed};
-ghost use Rattle.closure_seq.specs.Propagation.{IsClosedAlong, IsSettledAt, IsSettled, IsSettledBut};
+ghost use Rattle.closure_seq.specs.Propagation.{IsReady, IsStep, IsRefinement, HasEmpty, AreRowsClosed};
+ghost use Rattle.closure_seq.specs.Propagation.{IsAmong, IsCharged, IsSettledAt, IsSettled};
+ghost use Rattle.closure_seq.specs.Propagation.{IsSettledBut};
 ghost use Rattle.std.specs.Prelude.{slice_set, true};
 
 use crate::pairs::PairSets;
+use crate::span::{Span, charged_with};
 use calculus_table::{Compose, Rel};
 use compose_fast::{Tables, without};
 
@@ -74,86 +76,109 @@ pub(crate) fn refine<C: Compose, const P: usize>(
     work.push(i, k, rel.count());
 }
 
-/// Narrows the set of `(i, k)` along `j`. If it becomes smaller its edge is queued.
+/// Narrows the set of `(i, k)` along `j`, by the tables of the set `a` of `(i, j)`. If it becomes smaller its edge is
+/// queued. Where `(i, j)` has become smaller than `a` its edge is queued, so that it will be looked at again.
 #[inline(always)]
 fn narrow<C: Compose, const P: usize>(
     work: &mut PairSets,
+    tables: &Tables,
     c: &C,
     i: u32,
     j: u32,
     k: u32,
+    a: Rel,
 ) -> Result<(), Emptied>
     requires ready { IsReady (C.algebra c.now) P work.old }
     requires proper { IsProperTriple work.old.nodes i j k }
+    requires tables { AreTablesOf (C.algebra c.now) P a tables.now.set }
+    requires within { IsWithin (set_of work.old i j) a }
+    requires set { ¬ IsQueued work.old i j → a ≡ set_of work.old i j }
     ensures step { IsStep (C.algebra c.now) work.old work.new }
-    ensures closed { OnOk result (IsClosedAlong (C.algebra c.now) work.new i j k) }
+    ensures settled { OnOk result (IsSettledAt (C.algebra c.now) work.new i j k) }
     ensures empty { OnErr result (HasEmpty work.new) }
 {
     let _nodes = work.nodes();
     let rel = work.set(i, k);
-    let narrowed = rel.meet(c.compose(work.set(i, j), work.set(j, k)));
+    let narrowed = rel.meet(tables.compose::<C, P>(c, a, work.set(j, k)));
     if narrowed == rel {
         return Ok(());
     }
     refine::<C, P>(work, c, i, k, narrowed);
+    work.note(i, j, k);
     if narrowed.is_empty() {
         return Err(Emptied);
     }
     Ok(())
 }
 
-/// Narrows the set of `(i, k)` along `j`, where these are three nodes.
+/// Narrows the set of `(i, k)` along `j`, where these are three nodes and `k` is in the range.
 fn narrow_proper<C: Compose, const P: usize>(
     work: &mut PairSets,
+    tables: &Tables,
     c: &C,
     i: u32,
     j: u32,
     k: u32,
+    span: Span,
+    a: Rel,
 ) -> Result<(), Emptied>
     requires ready { IsReady (C.algebra c.now) P work.old }
     requires proper { IsProperPair work.old.nodes i j }
+    requires span { span.end ≤ work.old.nodes }
+    requires tables { AreTablesOf (C.algebra c.now) P a tables.now.set }
+    requires within { IsWithin (set_of work.old i j) a }
+    requires set { ¬ IsQueued work.old i j → a ≡ set_of work.old i j }
     ensures step { IsStep (C.algebra c.now) work.old work.new }
-    ensures closed { OnOk result
-        (IsProperTriple work.old.nodes i j k → IsClosedAlong (C.algebra c.now) work.new i j k) }
+    ensures settled { OnOk result
+        (IsProperTriple work.old.nodes i j k → IsAmong span k → IsSettledAt (C.algebra c.now) work.new i j k) }
     ensures empty { OnErr result (HasEmpty work.new) }
 {
-    if k < work.nodes() && k != i && k != j {
-        narrow::<C, P>(work, c, i, j, k)
+    if span.first <= k && k < span.end && k != i && k != j {
+        narrow::<C, P>(work, tables, c, i, j, k, a)
     } else {
         Ok(())
     }
 }
 
-/// Narrows the set of `(i, k)` along `j` for the nodes `k` of a block whose lane is set in `gaps`.
+/// Narrows the set of `(i, k)` along `j` for the nodes `k` of a block that are in the range and whose lane is set in
+/// `gaps`.
 #[inline(always)]
 fn narrow_lanes<C: Compose, const P: usize>(
     work: &mut PairSets,
+    tables: &Tables,
     c: &C,
     i: u32,
     j: u32,
+    span: Span,
     block: u32,
+    a: Rel,
     gaps: Rel,
 ) -> Result<(), Emptied>
     requires ready { IsReady (C.algebra c.now) P work.old }
     requires proper { IsProperPair work.old.nodes i j }
+    requires span { span.end ≤ work.old.nodes }
     requires inside { block < 16 }
+    requires tables { AreTablesOf (C.algebra c.now) P a tables.now.set }
+    requires within { IsWithin (set_of work.old i j) a }
+    requires set { ¬ IsQueued work.old i j → a ≡ set_of work.old i j }
     requires clear { (l : ℕ) → l < 16 → ¬ Has gaps l → IsProperTriple work.old.nodes i j (16 * block + l) →
         IsSettledAt (C.algebra c.now) work.old i j (16 * block + l) }
     ensures step { IsStep (C.algebra c.now) work.old work.new }
     ensures settled { OnOk result ((l : ℕ) → l < 16 → IsProperTriple work.old.nodes i j (16 * block + l) →
-        IsSettledAt (C.algebra c.now) work.new i j (16 * block + l)) }
+        IsAmong span (16 * block + l) → IsSettledAt (C.algebra c.now) work.new i j (16 * block + l)) }
     ensures empty { OnErr result (HasEmpty work.new) }
 {
     let mut left = gaps;
     while !left.is_empty() {
         let lane = left.least();
         left = without(left, lane);
-        narrow_proper::<C, P>(work, c, i, j, 16 * block + lane)?;
+        narrow_proper::<C, P>(work, tables, c, i, j, 16 * block + lane, span, a)?;
     }
     Ok(())
 }
 
-/// Narrows the set of `(i, k)` along `j` for the nodes `k` of a block, by the tables of the set `a` of `(i, j)`.
+/// Narrows the set of `(i, k)` along `j` for the nodes `k` of a block that are in the range, by the tables of the set
+/// `a` of `(i, j)`.
 #[inline(always)]
 fn propagate_block<C: Compose, const P: usize>(
     work: &mut PairSets,
@@ -161,17 +186,20 @@ fn propagate_block<C: Compose, const P: usize>(
     c: &C,
     i: u32,
     j: u32,
+    span: Span,
     block: u32,
     a: Rel,
 ) -> Result<(), Emptied>
     requires ready { IsReady (C.algebra c.now) P work.old }
     requires proper { IsProperPair work.old.nodes i j }
+    requires span { span.end ≤ work.old.nodes }
     requires inside { block < 16 }
     requires tables { AreTablesOf (C.algebra c.now) P a tables.now.set }
+    requires within { IsWithin (set_of work.old i j) a }
     requires set { ¬ IsQueued work.old i j → a ≡ set_of work.old i j }
     ensures step { IsStep (C.algebra c.now) work.old work.new }
     ensures settled { OnOk result ((l : ℕ) → l < 16 → IsProperTriple work.old.nodes i j (16 * block + l) →
-        IsSettledAt (C.algebra c.now) work.new i j (16 * block + l)) }
+        IsAmong span (16 * block + l) → IsSettledAt (C.algebra c.now) work.new i j (16 * block + l)) }
     ensures empty { OnErr result (HasEmpty work.new) }
 {
     let _nodes = work.nodes();
@@ -182,15 +210,16 @@ fn propagate_block<C: Compose, const P: usize>(
     if gaps.is_empty() {
         return Ok(());
     }
-    narrow_lanes::<C, P>(work, c, i, j, block, gaps)
+    narrow_lanes::<C, P>(work, tables, c, i, j, span, block, a, gaps)
 }
 
-/// Narrows the set of each pair `(i, k)` along `j`.
+/// Narrows the set of each pair `(i, k)` that belongs to the rows along `j`.
 #[inline(always)]
 fn propagate_from<C: Compose, const P: usize>(
     work: &mut PairSets,
     tables: &mut Tables,
     c: &C,
+    rows: Span,
     i: u32,
     j: u32,
 ) -> Result<(), Emptied>
@@ -198,58 +227,84 @@ fn propagate_from<C: Compose, const P: usize>(
     requires proper { IsProperPair work.old.nodes i j }
     requires tables { AreBaseTables (C.algebra c.now) P tables.old.bases }
     ensures step { IsStep (C.algebra c.now) work.old work.new }
-    ensures settled { OnOk result
-        ((k : ℕ) → IsProperTriple work.old.nodes i j k → IsSettledAt (C.algebra c.now) work.new i j k) }
+    ensures settled { OnOk result ((k : ℕ) → IsProperTriple work.old.nodes i j k → IsCharged rows i k →
+        IsSettledAt (C.algebra c.now) work.new i j k) }
     ensures empty { OnErr result (HasEmpty work.new) }
     ensures tables { tables.new.bases ≡ tables.old.bases }
 {
+    let span = charged_with(rows, i, work.nodes());
+    if span.end <= span.first {
+        return Ok(());
+    }
     let a = work.set(i, j);
     tables.take::<C, P>(c, a);
-    let blocks = work.blocks();
-    for block in 0..blocks {
-        propagate_block::<C, P>(work, tables, c, i, j, block, a)?;
+    for block in span.first / 16..(span.end + 15) / 16 {
+        propagate_block::<C, P>(work, tables, c, i, j, span, block, a)?;
     }
     Ok(())
 }
 
-/// Narrows along the edge between `i` and `j`, both ways.
+/// Narrows the pairs that belong to the rows along the edge between `i` and `j`, both ways.
 pub(crate) fn propagate<C: Compose, const P: usize>(
     work: &mut PairSets,
     tables: &mut Tables,
     c: &C,
+    rows: Span,
     i: u32,
     j: u32,
 ) -> Result<(), Emptied>
     requires ready { IsReady (C.algebra c.now) P work.old }
     requires proper { IsProperPair work.old.nodes i j }
-    requires settled { IsSettledBut (C.algebra c.now) work.old i j }
+    requires settled { IsSettledBut (C.algebra c.now) rows work.old i j }
     requires tables { AreBaseTables (C.algebra c.now) P tables.old.bases }
     ensures step { IsStep (C.algebra c.now) work.old work.new }
-    ensures settled { OnOk result (IsSettled (C.algebra c.now) work.new) }
+    ensures settled { OnOk result (IsSettled (C.algebra c.now) rows work.new) }
     ensures empty { OnErr result (HasEmpty work.new) }
     ensures tables { tables.new.bases ≡ tables.old.bases }
 {
     let _nodes = work.nodes();
-    propagate_from::<C, P>(work, tables, c, i, j)?;
-    propagate_from::<C, P>(work, tables, c, j, i)
+    propagate_from::<C, P>(work, tables, c, rows, i, j)?;
+    propagate_from::<C, P>(work, tables, c, rows, j, i)
 }
 
-/// Takes edges off the queue and narrows along them until none is left.
+/// Takes edges off the queue and narrows the pairs that belong to the rows along them until none is left.
 pub(crate) fn propagate_all<C: Compose, const P: usize>(
     work: &mut PairSets,
     tables: &mut Tables,
     c: &C,
+    rows: Span,
 ) -> Result<(), Emptied>
     requires ready { IsReady (C.algebra c.now) P work.old }
-    requires settled { IsSettled (C.algebra c.now) work.old }
+    requires settled { IsSettled (C.algebra c.now) rows work.old }
     requires tables { AreBaseTables (C.algebra c.now) P tables.old.bases }
     ensures refined { IsRefinement (C.algebra c.now) work.old work.new }
-    ensures closed { OnOk result (AreClosed (C.algebra c.now) work.new) }
+    ensures closed { OnOk result (AreRowsClosed (C.algebra c.now) rows work.new) }
     ensures empty { OnErr result (HasEmpty work.new) }
     ensures tables { tables.new.bases ≡ tables.old.bases }
 {
     while let Some((i, j)) = work.pop() {
-        propagate::<C, P>(work, tables, c, i, j)?;
+        propagate::<C, P>(work, tables, c, rows, i, j)?;
+    }
+    Ok(())
+}
+
+/// Takes edges off the queue and narrows the pairs that belong to the rows along them, until none is left or there is
+/// no room for notes of more.
+pub(crate) fn propagate_noted<C: Compose, const P: usize>(
+    work: &mut PairSets,
+    tables: &mut Tables,
+    c: &C,
+    rows: Span,
+) -> Result<(), Emptied>
+    requires ready { IsReady (C.algebra c.now) P work.old }
+    requires settled { IsSettled (C.algebra c.now) rows work.old }
+    requires tables { AreBaseTables (C.algebra c.now) P tables.old.bases }
+    ensures refined { IsRefinement (C.algebra c.now) work.old work.new }
+    ensures settled { OnOk result (IsSettled (C.algebra c.now) rows work.new) }
+    ensures tables { tables.new.bases ≡ tables.old.bases }
+{
+    while let Some((i, j)) = work.pop_noted() {
+        propagate::<C, P>(work, tables, c, rows, i, j)?;
     }
     Ok(())
 }

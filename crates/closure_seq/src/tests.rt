@@ -1,4 +1,5 @@
 ghost use Rattle.std.specs.Prelude.{◌≡◌, ◌<◌, IsTrue, IfOk};
+ghost use Rattle.network_words.specs.Edge.{IsProperTriple};
 ghost use Rattle.network_words.specs.Network.{IsNetwork};
 
 use super::*;
@@ -256,5 +257,68 @@ fn is_send<T: Send>() {}
 #[test]
 fn room_and_paths_go_to_other_threads() {
     is_send::<Work>();
+    is_send::<SliceCopy>();
     is_send::<ClosedPath>();
+}
+
+/// Whether these are three nodes.
+fn is_triple(nodes: u32, i: u32, j: u32, k: u32) -> bool
+    ensures { IsTrue result → IsProperTriple nodes i j k }
+{
+    i < nodes && j < nodes && k < nodes && i != j && j != k && i != k
+}
+
+/// Narrows a network along the triples that were noted.
+fn narrow_along<C: Compose>(rt: &impl Abort, net: &mut Net, c: &C, notes: &[Note]) {
+    for note in notes {
+        let (i, j, k) = (u32::from(note.i), u32::from(note.j), u32::from(note.k));
+        assert!(rt; is_network(net, c) && is_triple(net.nodes(), i, j, k));
+        let along = c.compose(net.get(c, i, j), net.get(c, j, k));
+        net.narrow(c, i, k, along);
+    }
+}
+
+/// Closes a slice of the network on a copy and narrows the network as was noted. Returns whether the slice is closed.
+fn close_slice<C: Compose>(
+    rt: &impl Abort,
+    c: &C,
+    copy: &mut SliceCopy,
+    net: &mut Net,
+    from: u32,
+    to: u32,
+) -> bool {
+    assert!(rt; is_network(net, c) && net.nodes() == copy.nodes() && to <= net.edges());
+    copy.begin(c, net.words(), from, to);
+    if !copy.close_rows(c) {
+        return false;
+    }
+    narrow_along(rt, net, c, copy.notes());
+    assert!(rt; net.nodes() == copy.nodes());
+    copy.matches(c, net.words())
+}
+
+#[test]
+fn slices_are_closed_on_copies(rt: HostRuntime) -> Result<(), Fail> {
+    let c = rcc8(rt.alloc())?;
+    let mut net = Net::new(rt.alloc(), 40, c.full())?;
+    for i in 1..40 {
+        assert!(rt; net.nodes() == 40);
+        let edge = network_words::edge_between(net.nodes(), i - 1, i);
+        assert!(rt; edge < net.edges());
+        net.set(edge, Rel::of(TPP | NTPP));
+    }
+    let mut copy = SliceCopy::new(rt.alloc(), 40)?;
+    let mut closed = false;
+    // a slice may take several turns, since there is room for so many notes alone
+    for _ in 0..10 {
+        closed = true;
+        for (from, to) in [(0, 100), (100, 101), (101, 780)] {
+            closed &= close_slice(&rt, &c, &mut copy, &mut net, from, to);
+        }
+    }
+    assert!(rt; closed);
+    for word in net.words() {
+        assert_eq!(rt; *word, TPP | NTPP);
+    }
+    Ok(())
 }

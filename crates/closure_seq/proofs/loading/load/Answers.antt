@@ -5,5 +5,5 @@ use Rattle.closure_seq.proofs.loading.load.Goals as goal
 pub returns-clause-in_step : goal.returns-clause-in_step
 returns-clause-in_step g c =
     let p = c.loop-i.invariant in
-    let all : c.args.net.now.nodes ≤ c.loop-i.i = omega (arith, c.loop-i-test.false, c.nodes-nodes.ensures.value, c.requires.nodes) in
-    IsInStep-loaded (g.C.Compose.algebra c.args.c.now) c.args.net.now.nodes c.args.net.now.words c.loop-i.work p.nodes (λ i j l o b. p.loaded i j (omega arith) o b)
+    let all : c.args.work.now.nodes ≤ c.loop-i.i = omega (arith, c.loop-i-test.false, c.nodes-nodes.ensures.value) in
+    IsInStep-loaded (g.C.Compose.algebra c.args.c.now) c.args.work.now.nodes c.args.words.now c.loop-i.work p.nodes (λ i j l o b. p.loaded i j (omega arith) o b)

@@ -9,6 +9,7 @@ returns-clause-value g c =
       c.put-2.ensures.value,
       c.put.ensures.value,
       c.converse_of.ensures,
-      c.get-rel.ensures.value,
-      relation_between-converse (g.C.Compose.algebra c.args.c.now) c.args.net.now.nodes c.args.net.now.words c.args.i c.args.j c.lawful.ensures c.requires.network (λ e. omega arith),
+      c.relation_between-rel.ensures.value,
+      c.nodes.ensures.value,
+      relation_between-converse (g.C.Compose.algebra c.args.c.now) c.args.work.now.nodes c.args.words.now c.args.i c.args.j c.lawful.ensures c.requires.network (λ e. omega arith),
     ) refl

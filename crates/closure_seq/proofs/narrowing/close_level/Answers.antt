@@ -3,7 +3,7 @@ use Rattle.std.proofs.lemmas.Result.{IfErr-weaker}
 use Rattle.compose_fast.specs.Planes.{AreBaseTables}
 use Rattle.network_words.proofs.Pairs.{pair-ordered}
 use Rattle.closure_seq.specs.Worklist.{Worklist}
-use Rattle.closure_seq.specs.Propagation.{IsRefinement}
+use Rattle.closure_seq.specs.Propagation.{IsRefinement, all_nodes}
 use Rattle.closure_seq.proofs.Standing.{IsReady-narrowed, IsSettled-narrowed, IsInStepBut-narrowed, IsWithin-narrowed, IsClosure-level, IsStanding-level, IsEmptyClosure-level, on_ok_both}
 use Rattle.closure_seq.proofs.narrowing.close_level.Goals as goal
 
@@ -25,7 +25,8 @@ pub propagate_level-requires-clause-settled : goal.propagate_level-requires-clau
 propagate_level-requires-clause-settled g c =
     let r = c.requires in
     rw c.refine.ensures.value
-    (IsSettled-narrowed (g.C.Compose.algebra c.args.c.now) c.args.pairs.now c.args.levels.now c.args.tables.now.bases c.args.i c.args.j c.args.rel r.standing c.nodes-nodes.ensures.sized r.order r.below r.within)
+    (IsSettled-narrowed (g.C.Compose.algebra c.args.c.now) c.args.pairs.now c.args.levels.now c.args.tables.now.bases c.args.i c.args.j c.args.rel r.standing c.nodes-nodes.ensures.sized r.order r.below r.within
+    (all_nodes c.args.pairs.now.nodes))
 
 pub propagate_level-requires-clause-tables : goal.propagate_level-requires-clause-tables
 propagate_level-requires-clause-tables g c =

@@ -6,13 +6,13 @@ use Rattle.closure_seq.specs.Propagation.{AreClosed}
 use Rattle.closure_seq.specs.Paths.{IsInStepBut}
 use Rattle.closure_seq.proofs.Places.{waiting-pair}
 use Rattle.closure_seq.proofs.Steps.{IsRefinement-refl, IsRefinement-step, IsRefinement-queue, IsReady-refinement}
-use Rattle.closure_seq.proofs.Settled.{IsReady-queue, IsSettledBut-popped, IsClosedAlong-idle}
+use Rattle.closure_seq.proofs.Settled.{IsReady-queue, IsSettledBut-popped, AreRowsClosed-idle, AreClosed-all}
 use Rattle.closure_seq.proofs.Trails.{rest-levels}
 use Rattle.closure_seq.proofs.InStep.{IsInStepBut-stored, IsInStepBut-again, IsInStepBut-step}
 use Rattle.closure_seq.proofs.narrowing.propagate_level.Goals as goal
 
 pub loop-i-init : goal.loop-i-init
-loop-i-init g c = record { refined = IsRefinement-refl _ _ c.requires.ready.sets; settled = c.requires.settled; in_step = c.requires.in_step; rest = refl; length_is = refl; bases = refl }
+loop-i-init g c = record { refined = IsRefinement-refl _ _ c.requires.ready.sets; settled = rw (c.all_nodes-rows.ensures, c.nodes.ensures.value) c.requires.settled; in_step = c.requires.in_step; rest = refl; length_is = refl; bases = refl }
 
 pub returns-in-Err-clause-refined : goal.returns-in-Err-clause-refined
 returns-in-Err-clause-refined g c =
@@ -32,7 +32,7 @@ propagate-requires-clause-ready g c =
 pub propagate-requires-clause-settled : goal.propagate-requires-clause-settled
 propagate-requires-clause-settled g c =
     rw (c.in_default-store_set.ensures.pairs, c.in-Some.ensures.taken)
-    (IsSettledBut-popped (g.C.Compose.algebra c.args.c.now) c.loop-i.pairs c.in-Some.i c.in-Some.j c.pop.ensures.sized (waiting-pair c.loop-i.pairs c.in-Some.i c.in-Some.j c.in-Some.ensures.queued) c.loop-i.invariant.settled)
+    (IsSettledBut-popped (g.C.Compose.algebra c.args.c.now) c.all_nodes-rows.result c.loop-i.pairs c.in-Some.i c.in-Some.j c.pop.ensures.sized (waiting-pair c.loop-i.pairs c.in-Some.i c.in-Some.j c.in-Some.ensures.queued) c.loop-i.invariant.settled)
 
 pub returns-in-Err-propagate-clause-refined : goal.returns-in-Err-propagate-clause-refined
 returns-in-Err-propagate-clause-refined g c =
@@ -74,4 +74,5 @@ loop-i-preserved g c =
 pub returns-clause-closed : goal.returns-clause-closed
 returns-clause-closed g c =
     subst (λ (y : Worklist). AreClosed (g.C.Compose.algebra c.args.c.now) y) (sym c.in_default.ensures.idle.0)
-    (IsClosedAlong-idle (g.C.Compose.algebra c.args.c.now) c.loop-i.pairs c.loop-i.invariant.settled c.in_default.ensures.idle.1)
+    (AreClosed-all (g.C.Compose.algebra c.args.c.now) c.args.pairs.now.nodes c.loop-i.pairs c.loop-i.invariant.refined.nodes
+    (rw (c.all_nodes-rows.ensures, c.nodes.ensures.value) at (AreRowsClosed-idle (g.C.Compose.algebra c.args.c.now) c.all_nodes-rows.result c.loop-i.pairs c.loop-i.invariant.settled c.in_default.ensures.idle.1)))

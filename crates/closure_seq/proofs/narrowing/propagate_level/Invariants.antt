@@ -9,7 +9,7 @@ invariant-loop-i g l =
     let m = g.C.Compose.algebra l.c in
     record {
       refined : IsRefinement m l.initial.pairs l.pairs;
-      settled : IsSettled m l.pairs;
+      settled : IsSettled m l.rows l.pairs;
       in_step : IsInStepBut m l.levels.nodes l.levels.top l.pairs;
       rest : l.levels ≡ record l.initial.levels { top = l.levels.top; changes = l.levels.changes };
       length_is : length l.levels.top ≡ length l.initial.levels.top;

@@ -1,4 +1,5 @@
 use Rattle.std.proofs.lemmas.Result.{on_ok_weaker}
+use Rattle.closure_seq.proofs.Steps.{IsStep-trans}
 use Rattle.closure_seq.proofs.Settled.{IsSettled-propagated}
 use Rattle.closure_seq.proofs.propagation.propagate.Goals as goal
 
@@ -6,6 +7,9 @@ pub returns-clause-settled : goal.returns-clause-settled
 returns-clause-settled g c =
     let one = c.in_ok-propagate_from.ensures in
     on_ok_weaker c.propagate_from-2.result
-    (λ second. IsSettled-propagated (g.C.Compose.algebra c.args.c.now) c.args.work.now c.propagate_from.new.work c.propagate_from-2.new.work c.args.i c.args.j
+    (λ second. IsSettled-propagated (g.C.Compose.algebra c.args.c.now) c.args.rows c.args.work.now c.propagate_from.new.work c.propagate_from-2.new.work c.args.i c.args.j
     c.requires.ready.calculus c.nodes-nodes.ensures.sized c.requires.proper c.requires.settled one.step one.settled c.propagate_from-2.ensures.step second)
     c.propagate_from-2.ensures.settled
+
+pub returns-clause-step : goal.returns-clause-step
+returns-clause-step g c = IsStep-trans _ _ _ _ c.in_ok-propagate_from.ensures.step c.propagate_from-2.ensures.step

@@ -1,9 +1,9 @@
 use Rattle.std.proofs.Common.{◌<◌, subst, sym, ◌∙◌, refl, arith}
 use Rattle.closure_seq.specs.Worklist.{Worklist, work_left}
-use Rattle.closure_seq.specs.Propagation.{IsRefinement, AreClosed}
+use Rattle.closure_seq.specs.Propagation.{IsRefinement, AreRowsClosed}
 use Rattle.closure_seq.proofs.Places.{waiting-pair}
 use Rattle.closure_seq.proofs.Steps.{IsRefinement-refl, IsRefinement-step, IsReady-refinement}
-use Rattle.closure_seq.proofs.Settled.{IsReady-queue, IsSettledBut-popped, work_left-popped, IsClosedAlong-idle}
+use Rattle.closure_seq.proofs.Settled.{IsReady-queue, IsSettledBut-popped, work_left-popped, AreRowsClosed-idle}
 use Rattle.closure_seq.proofs.propagation.propagate_all.Goals as goal
 
 pub loop-i-init : goal.loop-i-init
@@ -19,7 +19,7 @@ propagate-requires-clause-proper g c = rw c.in-Some.ensures.taken (waiting-pair 
 pub propagate-requires-clause-settled : goal.propagate-requires-clause-settled
 propagate-requires-clause-settled g c =
     rw c.in-Some.ensures.taken
-    (IsSettledBut-popped (g.C.Compose.algebra c.args.c.now) c.loop-i.work c.in-Some.i c.in-Some.j c.pop.ensures.sized (waiting-pair c.loop-i.work c.in-Some.i c.in-Some.j c.in-Some.ensures.queued) c.loop-i.invariant.settled)
+    (IsSettledBut-popped (g.C.Compose.algebra c.args.c.now) c.args.rows c.loop-i.work c.in-Some.i c.in-Some.j c.pop.ensures.sized (waiting-pair c.loop-i.work c.in-Some.i c.in-Some.j c.in-Some.ensures.queued) c.loop-i.invariant.settled)
 
 pub loop-i-preserved : goal.loop-i-preserved
 loop-i-preserved g c = record {
@@ -43,8 +43,8 @@ returns-in_err-propagate-clause-refined g c =
 
 pub returns-clause-closed : goal.returns-clause-closed
 returns-clause-closed g c =
-    subst (λ (y : Worklist). AreClosed (g.C.Compose.algebra c.args.c.now) y) (sym c.in_default.ensures.idle.0)
-    (IsClosedAlong-idle (g.C.Compose.algebra c.args.c.now) c.loop-i.work c.loop-i.invariant.settled c.in_default.ensures.idle.1)
+    subst (λ (y : Worklist). AreRowsClosed (g.C.Compose.algebra c.args.c.now) c.args.rows y) (sym c.in_default.ensures.idle.0)
+    (AreRowsClosed-idle (g.C.Compose.algebra c.args.c.now) c.args.rows c.loop-i.work c.loop-i.invariant.settled c.in_default.ensures.idle.1)
 
 pub returns-clause-refined : goal.returns-clause-refined
 returns-clause-refined g c =

@@ -8,7 +8,7 @@ invariant-loop-i g l =
     let m = g.C.Compose.algebra l.c in
     record {
       refined : IsRefinement m l.initial.work l.work;
-      settled : IsSettled m l.work;
+      settled : IsSettled m l.rows l.work;
       bases : l.tables.bases ≡ l.initial.tables.bases;
     }
 

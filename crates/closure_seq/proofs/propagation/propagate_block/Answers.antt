@@ -8,7 +8,7 @@ pub returns-then-is_empty-clause-step : goal.returns-then-is_empty-clause-step
 returns-then-is_empty-clause-step g c = IsStep-refl _ _ c.requires.ready.sets
 
 pub returns-then-is_empty-clause-settled : goal.returns-then-is_empty-clause-settled
-returns-then-is_empty-clause-settled g c = λ l small t.
+returns-then-is_empty-clause-settled g c = λ l small t _.
     let r = c.requires in
     settled-clear (g.C.Compose.algebra c.args.c.now) g.row.P c.args.work.now c.args.tables.now.set c.bytes.result.now c.args.i c.args.j (16 * c.args.block) l c.args.a
     r.ready c.bytes.ensures r.tables t r.set

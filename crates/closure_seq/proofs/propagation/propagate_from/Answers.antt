@@ -7,7 +7,7 @@ pub take-requires-clause-within : goal.take-requires-clause-within
 take-requires-clause-within g c = rw c.set-a.ensures (c.requires.ready.sets.within _ _ c.requires.proper)
 
 pub loop-block-init : goal.loop-block-init
-loop-block-init g c = record { step = IsStep-refl _ _ c.requires.ready.sets; settled = λ q l t. absurd (omega arith) }
+loop-block-init g c = record { step = IsStep-refl _ _ c.requires.ready.sets; settled = λ q l t among. absurd (let from = among.from in omega arith) }
 
 pub propagate_block-requires-clause-ready : goal.propagate_block-requires-clause-ready
 propagate_block-requires-clause-ready g c = IsReady-step _ _ _ _ c.requires.ready c.loop-block.invariant.step
@@ -23,8 +23,23 @@ returns-in_err-propagate_block-clause-step g c = IsStep-trans _ _ _ _ c.loop-blo
 
 pub loop-block-preserved : goal.loop-block-preserved
 loop-block-preserved g c =
-    IsPropagated-block (g.C.Compose.algebra c.args.c.now) c.args.work.now c.loop-block.work c.propagate_block.new.work c.args.i c.args.j c.loop-block.block
+    IsPropagated-block (g.C.Compose.algebra c.args.c.now) c.charged_with-span.result c.args.work.now c.loop-block.work c.propagate_block.new.work c.args.i c.args.j c.loop-block.block
     c.loop-block.invariant c.in_ok-propagate_block.ensures.step c.in_ok-propagate_block.ensures.settled
 
 pub returns-clause-settled : goal.returns-clause-settled
-returns-clause-settled g c = λ k t. c.loop-block.invariant.settled k (omega (arith, t.third_below, c.blocks-blocks.ensures.enough)) t
+returns-clause-settled g c = λ k t charged.
+    let n = c.nodes.ensures.value in
+    let among = c.charged_with-span.ensures.charged k (omega (arith, t.third_below, n)) charged in
+    c.loop-block.invariant.settled k (omega (arith, among.below, c.loop-block-test.false)) t among
+
+pub returns-then-span-clause-settled : goal.returns-then-span-clause-settled
+returns-then-span-clause-settled g c = λ k t charged.
+    let n = c.nodes.ensures.value in
+    let among = c.charged_with-span.ensures.charged k (omega (arith, t.third_below, n)) charged in
+    absurd (omega (arith, among.from, among.below, c.if-span.true))
+
+pub propagate_block-requires-clause-span : goal.propagate_block-requires-clause-span
+propagate_block-requires-clause-span g c = rw c.loop-block.invariant.step.nodes (omega (arith, c.charged_with-span.ensures.within, c.nodes.ensures.value))
+
+pub propagate_block-requires-clause-within : goal.propagate_block-requires-clause-within
+propagate_block-requires-clause-within g c = rw c.set-a.ensures (c.loop-block.invariant.step.within _ _ c.requires.proper)

@@ -1,0 +1,78 @@
+-- Copies of a network's sets: settled, met with words, and compared with them.
+use Rattle.std.proofs.Common.{◌≡◌, ℕ, ◌+◌, ◌<◌, ◌≤◌, List, sym, subst, arith, inl, inr}
+use Rattle.std.proofs.lemmas.Bool.{cases_lt}
+use Rattle.calculus_table.specs.Algebra.{Algebra}
+use Rattle.network_words.specs.Edge.{edge_at, IsProperTriple}
+use Rattle.network_words.specs.Closure.{IsRangeClosed}
+use Rattle.network_words.proofs.Edges.{edge_at-order}
+use Rattle.network_words.proofs.Pairs.{pair-first, pair-second, pair-outer}
+use Rattle.compose_fast.specs.Planes.{AreBaseTables}
+use Rattle.closure_seq.specs.declared.span.Span.{Span}
+use Rattle.closure_seq.specs.Worklist.{Worklist, IsIdle}
+use Rattle.closure_seq.specs.Propagation.{IsInStep, IsRefinement, IsReady, IsSettled, IsStored}
+use Rattle.closure_seq.specs.Paths.{IsPlanes}
+use Rattle.closure_seq.specs.Copies.{CopyState, IsSettledCopy, IsMet, AreRowsOf}
+use Rattle.closure_seq.proofs.Settled.{IsSettled-met, AreRowsClosed-idle}
+use Rattle.closure_seq.proofs.Loads.{IsInStep-stored}
+use Rattle.closure_seq.proofs.Standing.{planes-le}
+
+-- the rows from that of the first edge of a slice to that of the last one
+pub AreRowsOf-edges : (n from to i j k l : ℕ) → i < j → j < n → k < l → l < n → edge_at n i j ≡ from → edge_at n k l + 1 ≡ to → AreRowsOf n from to (record { first = i; end = k + 1 })
+AreRowsOf-edges n from to i j k l o b p q first last = record {
+  each = λ x y xy yb ge lt. record {
+    from = elim (cases_lt x i) as (λ _. i ≤ x) [
+      | inl h ↦ (let less = (edge_at-order n x y i j xy yb o b).1 (inl h) in absurd (omega arith))
+      | inr g ↦ g
+    ];
+    below = elim (cases_lt k x) as (λ _. x < k + 1) [
+      | inl h ↦ (let less = (edge_at-order n k l x y p q xy yb).1 (inl h) in absurd (omega arith))
+      | inr g ↦ omega arith
+    ];
+  };
+}
+
+pub AreRowsOf-none : (n from to : ℕ) (rows : Span) → to ≤ from → AreRowsOf n from to rows
+AreRowsOf-none n from to rows le = record { each = λ x y xy yb ge lt. absurd (omega arith) }
+
+pub IsReady-copy : (m : Algebra) (copy : CopyState) → IsSettledCopy m copy → IsReady m copy.work.planes copy.work
+IsReady-copy m copy s = record { calculus = s.calculus; few = planes-le copy.work.planes s.planes; enough = s.enough; planes_are = λ _. copy.work.planes; sets = s.sets }
+
+-- sets met with words
+pub IsSettledCopy-met : (m : Algebra) (copy : CopyState) (work : Worklist) → IsMet m copy.work work → IsSettledCopy m copy → IsSettledCopy m (record copy { work = work })
+IsSettledCopy-met m copy work p s = record {
+  calculus = s.calculus;
+  planes = subst IsPlanes (sym p.planes) s.planes;
+  enough = omega (arith, s.enough, p.planes);
+  tables = subst (λ n. AreBaseTables m n copy.bases) (sym p.planes) s.tables;
+  sets = p.sets;
+  settled = IsSettled-met m copy.rows copy.work work p s.settled;
+  rows = s.rows;
+}
+
+-- sets narrowed
+pub IsSettledCopy-refined : (m : Algebra) (copy : CopyState) (work : Worklist) (bases : List ℕ) → IsRefinement m copy.work work → IsSettled m copy.rows work → bases ≡ copy.bases →
+    IsSettledCopy m copy → IsSettledCopy m (record copy { work = work; bases = bases })
+IsSettledCopy-refined m copy work bases p settled same s = record {
+  calculus = s.calculus;
+  planes = subst IsPlanes (sym p.planes) s.planes;
+  enough = omega (arith, s.enough, p.planes);
+  tables = rw (p.planes, same) s.tables;
+  sets = p.sets;
+  settled = settled;
+  rows = s.rows;
+}
+
+-- a copy without queued edges that has the sets of words
+pub IsRangeClosed-copy : (m : Algebra) (copy : CopyState) (words : List ℕ) → copy.work.nodes ≡ copy.slice.nodes → IsSettledCopy m copy →
+    ((i : ℕ) → i < copy.work.nodes → IsIdle copy.work i) → IsStored copy.work.nodes words copy.work copy.work.nodes → IsRangeClosed m copy.slice.nodes words copy.slice.from copy.slice.to
+IsRangeClosed-copy m copy words e s idle stored =
+    let n = copy.slice.nodes in
+    let in_step : IsInStep m n words copy.work = IsInStep-stored m n words copy.work e s.sets (subst (λ x. IsStored x words copy.work x) e stored) in
+    let closed = AreRowsClosed-idle m copy.rows copy.work s.settled idle in
+    record {
+      each = λ i k o b from to j t.
+          let row = s.rows.each i k o b from to in
+          let at = row.from in
+          rw (← in_step.sets i k (pair-outer n i j k t), ← in_step.sets i j (pair-first n i j k t), ← in_step.sets j k (pair-second n i j k t))
+          (closed i j k (subst (λ x. IsProperTriple x i j k) (sym e) t) (record { first_from = at; second_from = omega arith; lesser_below = inl row.below }));
+    }

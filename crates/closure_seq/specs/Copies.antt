@@ -1,0 +1,48 @@
+-- A copy of a network's sets, on which the edges of a slice are closed.
+use Rattle.std.specs.Prelude.{◌≡◌, ℕ, ◌*◌, ◌<◌, ◌≤◌, List}
+use Rattle.calculus_table.specs.Rel.{IsWithin}
+use Rattle.calculus_table.specs.Algebra.{Algebra}
+use Rattle.calculus_table.specs.Calculus.{IsCalculus}
+use Rattle.network_words.specs.Edge.{edge_at, IsProperPair}
+use Rattle.compose_fast.specs.Planes.{AreBaseTables}
+use Rattle.closure_seq.specs.Worklist.{Worklist, set_of, IsQueued}
+use Rattle.closure_seq.specs.Propagation.{AreConverses, IsAmong, IsSettled}
+use Rattle.closure_seq.specs.Paths.{IsPlanes}
+use Rattle.closure_seq.specs.declared.span.Span.{Span}
+
+-- a slice of the edges of n nodes: those with a number from `from` up to but without `to`
+pub record Slice : Type 0 where
+  pub nodes : ℕ
+  pub from : ℕ
+  pub to : ℕ
+
+-- what contracts see of a copy: the slice, the rows in which its edges lie, the sets and the queue, and the tables of the
+-- calculus
+pub record CopyState : Type 0 where
+  pub slice : Slice
+  pub rows : Span
+  pub work : Worklist
+  pub bases : List ℕ
+
+-- the edges of a slice lie in the rows
+pub record AreRowsOf (n from to : ℕ) (rows : Span) : Type 0 where
+  pub each : (i k : ℕ) → i < k → k < n → from ≤ edge_at n i k → edge_at n i k < to → IsAmong rows i
+
+-- a copy of which each triple of the slice is closed unless one of its two source edges is queued
+pub record IsSettledCopy (m : Algebra) (copy : CopyState) : Type 0 where
+  pub calculus : IsCalculus m
+  pub planes : IsPlanes copy.work.planes
+  pub enough : m.size ≤ 8 * copy.work.planes
+  pub tables : AreBaseTables m copy.work.planes copy.bases
+  pub sets : AreConverses m copy.work
+  pub settled : IsSettled m copy.rows copy.work
+  pub rows : AreRowsOf copy.slice.nodes copy.slice.from copy.slice.to copy.rows
+
+-- sets only became smaller, and each edge whose set changed is queued
+pub record IsMet (m : Algebra) (old new : Worklist) : Type 0 where
+  pub nodes : new.nodes ≡ old.nodes
+  pub planes : new.planes ≡ old.planes
+  pub sets : AreConverses m new
+  pub within : (i j : ℕ) → IsProperPair old.nodes i j → IsWithin (set_of new i j) (set_of old i j)
+  pub stays : (i j : ℕ) → IsQueued old i j → IsQueued new i j
+  pub same : (i j : ℕ) → IsProperPair old.nodes i j → ¬ IsQueued new i j → set_of new i j ≡ set_of old i j

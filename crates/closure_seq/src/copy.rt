@@ -1,0 +1,238 @@
+//! A copy of a network's sets, on which the edges of a slice are closed by propagation.
+//!
+//! Who narrows the words of a table that others narrow too takes them over into a copy, and closes his slice there.
+//! What that made smaller is noted, triple by triple, so that the same triples narrow the words of the table in the
+//! same order. Notes only propose. Whether the slice is closed is told by a comparison at the end: where no edge is
+//! queued, and the words are the sets of the copy, each triple of the slice is closed.
+
+ghost use Rattle.std.specs.Prelude.{◌≡◌, ◌*◌, ◌<◌, ◌≤◌, length, IsTrue};
+ghost use Rattle.calculus_table.specs.Composition.{full_of};
+ghost use Rattle.calculus_table.specs.Calculus.{IsCalculus};
+ghost use Rattle.network_words.specs.Edge.{edge_count};
+ghost use Rattle.network_words.specs.Network.{IsNetwork};
+ghost use Rattle.network_words.specs.declared.TheConstants.{MAX_NODES};
+ghost use Rattle.compose_fast.specs.Planes.{AreBaseTables};
+ghost use Rattle.closure_seq.specs.Worklist.{IsBegun};
+ghost use Rattle.closure_seq.specs.Propagation.{AreConverses, IsInStep, IsReady, IsRefinement, IsSettled};
+ghost use Rattle.closure_seq.specs.Paths.{IsPlanes};
+ghost use Rattle.closure_seq.specs.Copies.{IsMet};
+
+use crate::loading::{is_stored, load_queued};
+use crate::meeting::meet;
+use crate::pairs::{Note, PairSets};
+use crate::propagation::propagate_noted;
+use crate::span::{Span, rows_of};
+use calculus_table::{Compose, Memory, lawful};
+use compose_fast::Tables;
+use std::alloc::Global;
+use std::marker::Model;
+
+/// Loads the sets in as many planes as the calculus needs, and queues the edges whose set isn't full.
+fn load_planes<C: Compose>(pairs: &mut PairSets, tables: &mut Tables, words: &[u64], c: &C)
+    requires { IsNetwork (C.algebra c.now) pairs.old.nodes words.now }
+    ensures calculus { IsCalculus (C.algebra c.now) }
+    ensures planes { IsPlanes pairs.new.planes }
+    ensures enough { (C.algebra c.now).size ≤ 8 * pairs.new.planes }
+    ensures in_step { IsInStep (C.algebra c.now) pairs.old.nodes words.now pairs.new }
+    ensures begun { IsBegun pairs.new (full_of (C.algebra c.now)) pairs.new.nodes }
+    ensures tables { AreBaseTables (C.algebra c.now) pairs.new.planes tables.new.bases }
+{
+    lawful(c);
+    let size = c.size();
+    if size <= 8 {
+        load_queued::<C, 1>(pairs, tables, words, c);
+    } else if size <= 16 {
+        load_queued::<C, 2>(pairs, tables, words, c);
+    } else if size <= 32 {
+        load_queued::<C, 4>(pairs, tables, words, c);
+    } else {
+        load_queued::<C, 8>(pairs, tables, words, c);
+    }
+}
+
+/// Intersects each set with that of its edge, for the number of planes that the sets are kept in.
+fn meet_planes<C: Compose>(pairs: &mut PairSets, words: &[u64], c: &C)
+    requires planes { IsPlanes pairs.old.planes }
+    requires sets { AreConverses (C.algebra c.now) pairs.old }
+    requires length_is { length words.now ≡ edge_count pairs.old.nodes }
+    ensures { IsMet (C.algebra c.now) pairs.old pairs.new }
+{
+    let planes = pairs.planes();
+    if planes == 1 {
+        meet::<C, 1>(pairs, c, words);
+    } else if planes == 2 {
+        meet::<C, 2>(pairs, c, words);
+    } else if planes == 4 {
+        meet::<C, 4>(pairs, c, words);
+    } else {
+        meet::<C, 8>(pairs, c, words);
+    }
+}
+
+/// Propagates along the rows, for the number of planes that the sets are kept in. Returns whether no set became empty.
+fn propagate_planes<C: Compose>(
+    pairs: &mut PairSets,
+    tables: &mut Tables,
+    c: &C,
+    rows: Span,
+) -> bool
+    requires planes { IsPlanes pairs.old.planes }
+    requires ready { IsReady (C.algebra c.now) pairs.old.planes pairs.old }
+    requires settled { IsSettled (C.algebra c.now) rows pairs.old }
+    requires tables { AreBaseTables (C.algebra c.now) pairs.old.planes tables.old.bases }
+    ensures refined { IsRefinement (C.algebra c.now) pairs.old pairs.new }
+    ensures settled { IsTrue result → IsSettled (C.algebra c.now) rows pairs.new }
+    ensures tables { tables.new.bases ≡ tables.old.bases }
+{
+    let planes = pairs.planes();
+    if planes == 1 {
+        propagate_noted::<C, 1>(pairs, tables, c, rows).is_ok()
+    } else if planes == 2 {
+        propagate_noted::<C, 2>(pairs, tables, c, rows).is_ok()
+    } else if planes == 4 {
+        propagate_noted::<C, 4>(pairs, tables, c, rows).is_ok()
+    } else {
+        propagate_noted::<C, 8>(pairs, tables, c, rows).is_ok()
+    }
+}
+
+/// A copy of the sets of a network of so many nodes, and a slice of its edges.
+#[derive(Debug, Drop)]
+pub struct SliceCopy {
+    pairs: PairSets,
+    tables: Tables,
+    rows: Span,
+    from: u32,
+    to: u32,
+    since: u64,
+}
+
+impl Model for SliceCopy {
+    ghost use Rattle.closure_seq.specs.Copies.{CopyState};
+
+    ghost Value = { CopyState };
+
+    ghost view = { λ a. record {
+      slice = record { nodes = a.pairs.nodes; from = a.from; to = a.to };
+      rows = a.rows;
+      work = a.pairs;
+      bases = a.tables.bases;
+    } };
+}
+
+impl SliceCopy {
+    ghost use Rattle.std.specs.Prelude.{◌≡◌, ◌<◌, ◌≤◌, length, IsTrue, IfOk};
+    ghost use Rattle.network_words.specs.Edge.{edge_count};
+    ghost use Rattle.network_words.specs.Network.{IsNetwork};
+    ghost use Rattle.network_words.specs.Closure.{IsRangeClosed};
+    ghost use Rattle.network_words.specs.declared.TheConstants.{MAX_NODES};
+    ghost use Rattle.closure_seq.specs.Copies.{Slice, IsSettledCopy};
+
+    /// Room for copies of networks of so many nodes.
+    pub fn new(alloc: Global, nodes: u32) -> Result<SliceCopy, Memory>
+        requires some { 0 < nodes }
+        requires bounded { nodes ≤ MAX_NODES }
+        ensures { IfOk result (λ copy. copy.slice.nodes ≡ nodes) }
+    {
+        let mut pairs = PairSets::new(alloc, nodes)?;
+        // an edge takes room for two notes for each node, and a block is left beside that
+        let blocks = (2 * nodes + 255) / 256 + 1;
+        pairs.make_notes(alloc, blocks as usize)?;
+        let tables = Tables::new(alloc)?;
+        Ok(SliceCopy {
+            pairs,
+            tables,
+            rows: Span { first: 0, end: 0 },
+            from: 0,
+            to: 0,
+            since: 0,
+        })
+    }
+
+    /// The number of nodes.
+    pub fn nodes(&self) -> u32
+        ensures value { result ≡ self.now.slice.nodes }
+        ensures some { 0 < result }
+        ensures bounded { result ≤ MAX_NODES }
+    {
+        self.pairs.nodes()
+    }
+
+    /// Whether the slice has the edges from the number `from` up to but without `to`.
+    pub fn is_for(&self, from: u32, to: u32) -> bool
+        ensures { IsTrue result → (self.now.slice.from ≡ from) × (self.now.slice.to ≡ to) }
+    {
+        self.from == from && self.to == to
+    }
+
+    /// Takes over the words of a network, to close the edges from the number `from` up to but without `to`.
+    pub fn begin<C: Compose>(&mut self, c: &C, words: &[u64], from: u32, to: u32)
+        requires network { IsNetwork (C.algebra c.now) self.old.slice.nodes words.now }
+        requires below { to ≤ edge_count self.old.slice.nodes }
+        ensures settled { IsSettledCopy (C.algebra c.now) self.new }
+        ensures slice { self.new.slice ≡ record { nodes = self.old.slice.nodes; from = from; to = to } }
+    {
+        self.rows = rows_of(self.pairs.nodes(), from, to);
+        self.from = from;
+        self.to = to;
+        self.since = self.pairs.taken();
+        self.pairs.forget_notes();
+        load_planes(&mut self.pairs, &mut self.tables, words, c);
+    }
+
+    /// Takes over the words where they are less than the copy's sets.
+    pub fn catch_up<C: Compose>(&mut self, c: &C, words: &[u64])
+        requires settled { IsSettledCopy (C.algebra c.now) self.old }
+        requires length_is { length words.now ≡ edge_count self.old.slice.nodes }
+        ensures settled { IsSettledCopy (C.algebra c.now) self.new }
+        ensures slice { self.new.slice ≡ self.old.slice }
+    {
+        self.since = self.pairs.taken();
+        meet_planes(&mut self.pairs, words, c);
+    }
+
+    /// Narrows the edges of the slice until they are closed, or there is no room for notes of more. Returns whether no
+    /// set became empty.
+    pub fn close_rows<C: Compose>(&mut self, c: &C) -> bool
+        requires settled { IsSettledCopy (C.algebra c.now) self.old }
+        ensures settled { IsTrue result → IsSettledCopy (C.algebra c.now) self.new }
+        ensures slice { self.new.slice ≡ self.old.slice }
+    {
+        propagate_planes(&mut self.pairs, &mut self.tables, c, self.rows)
+    }
+
+    /// The narrowings since notes were forgotten, the first one first. Nothing is promised of them.
+    pub fn notes(&self) -> &[Note] {
+        self.pairs.notes()
+    }
+
+    /// Forgets the notes, so that there is room for others.
+    pub fn forget_notes(&mut self)
+        ensures { self.new ≡ self.old }
+    {
+        self.pairs.forget_notes();
+    }
+
+    /// Whether a quarter as many edges as there are were looked at since words were taken over.
+    pub fn is_due(&self) -> bool {
+        let nodes = u64::from(self.pairs.nodes());
+        self.pairs.taken().wrapping_sub(self.since) >= nodes * nodes / 8
+    }
+
+    /// Whether no more is to be looked at.
+    pub fn is_idle(&self) -> bool {
+        self.pairs.is_idle()
+    }
+
+    /// Whether the slice is known to be closed in the words: where no more is to be looked at, and they are the
+    /// copy's sets.
+    pub fn matches<C: Compose>(&self, c: &C, words: &[u64]) -> bool
+        requires settled { IsSettledCopy (C.algebra c.now) self.now }
+        requires length_is { length words.now ≡ edge_count self.now.slice.nodes }
+        ensures { IsTrue result → IsRangeClosed (C.algebra c.now) self.now.slice.nodes words.now
+            self.now.slice.from self.now.slice.to }
+    {
+        lawful(c);
+        self.pairs.is_idle() && is_stored(words, &self.pairs)
+    }
+}
