@@ -1,7 +1,7 @@
 -- Passes after a step: they stay passes, and what they have seen.
-use Rattle.std.proofs.Common.{◌≡◌, ◌≢◌, ◌↔◌, ℕ, ◌+◌, ◌<◌, ◌≤◌, Bool, true, false, cond, List, length, refl, sym, ◌∙◌, ap, subst, arith, inl, inr}
-use Rattle.std.specs.Prelude.{bit_and, slice_index, slice_set, nat_lt, IsTrue}
-use Rattle.std.proofs.lemmas.Bool.{cases_lt, cases_eq, lt-ltb, le-ltb}
+use Rattle.std.proofs.Common.{◌≡◌, ◌≢◌, ◌↔◌, ℕ, ◌+◌, ◌<◌, ◌≤◌, Bool, true, false, cond, ◌||◌, List, length, refl, sym, ◌∙◌, ap, subst, arith, inl, inr}
+use Rattle.std.specs.Prelude.{bit_and, slice_index, slice_set, nat_lt, sum, IsTrue}
+use Rattle.std.proofs.lemmas.Bool.{cases_lt, cases_eq, lt-ltb, le-ltb, or_cases, false≢true}
 use Rattle.std.proofs.lemmas.List.{length-set, get_or-set_same, get_or-set_other}
 use Rattle.std.proofs.lemmas.Grind.{same_number_lists}
 use Rattle.atomic_table.specs.Table.{Me}
@@ -17,7 +17,7 @@ use Rattle.network_words.specs.Closure.{IsClosedAt}
 use Rattle.network_words.specs.Network.{IsNetwork, Refines, relation_between, oriented}
 use Rattle.network_words.proofs.Networks.{Refines-refl, Refines-trans, relation_between-mono}
 use Rattle.network_words.proofs.Pairs.{pair-first, pair-second, pair-outer, pair-from_edge}
-use Rattle.network_words.proofs.Refinements.{relation_between-same}
+use Rattle.network_words.proofs.Refinements.{relation_between-same, sum-refines, sum-smaller}
 use Rattle.narrow_core.specs.Actor.{ActorState, seeing, stating, joining}
 use Rattle.narrow_core.specs.Machine.{IsProperFact, IsProperActor}
 use Rattle.narrow_core.proofs.Cores.{proper-seeing, proper-stating, proper-joining}
@@ -25,7 +25,7 @@ use Rattle.narrow_core.proofs.Sights.{AreSets-network, seen-within}
 use Rattle.edge_table.specs.Opening.{PassState, IsPass, algebra_of}
 use Rattle.edge_table.specs.declared.rule.Opening.{Opening}
 use Rattle.edge_table.specs.Rule.{Sees, States}
-use Rattle.edge_table.specs.Passes.{seen_between, Reads, Narrows}
+use Rattle.edge_table.specs.Passes.{seen_between, Reads, ReadsAll, Narrows}
 
 -- ---- a pass stays a pass
 
@@ -273,3 +273,52 @@ IsRefreshed-more old pass next snap snap' edges e word h eq shown put below =
 pub IsRefreshed-all : (old pass : PassState) (snap : List ℕ) (edges e : ℕ) → IsRefreshed old pass snap edges e → edges ≤ e → length old.actor.seen ≡ edges → snap ≡ pass.actor.seen
 IsRefreshed-all old pass snap edges e h end l =
     same_number_lists snap pass.actor.seen (h.size ∙ sym l ∙ sym h.length_is) (λ k b. h.shown k (omega (arith, h.size)))
+
+-- ---- every edge read again, one after another
+
+-- the pass has read some edges again, the snapshot is what it has seen, and `less` tells that some became less
+pub record IsReadAgain (old pass : PassState) (snap : List ℕ) (less : Bool) : Type 0 where
+  pub reads : ReadsAll old pass
+  pub snap_is : snap ≡ pass.actor.seen
+  pub smaller : less ≡ true → sum pass.actor.seen < sum old.actor.seen
+
+pub IsReadAgain-none : (pass : PassState) (snap : List ℕ) → snap ≡ pass.actor.seen → IsReadAgain pass pass snap false
+IsReadAgain-none pass snap e = record {
+  reads = record { rest = refl; length_is = refl; within = Refines-refl pass.actor.seen };
+  snap_is = e;
+  smaller = λ none. absurd (false≢true none);
+}
+
+pub IsReadAgain-more : (old pass next : PassState) (snap snap' : List ℕ) (e word : ℕ) (less changed : Bool) → IsReadAgain old pass snap less → next ≡ record pass { actor = seeing e word pass.actor } →
+    slice_index next.actor.seen e ≡ word → snap' ≡ slice_set snap e word → IsTrue changed ↔ (word ≢ slice_index snap e) → IsReadAgain old next snap' (less || changed)
+IsReadAgain-more old pass next snap snap' e word less changed h eq shown put differs =
+    let x = bit_and (slice_index pass.actor.seen e) word in
+    let seen : next.actor.seen ≡ slice_set pass.actor.seen e x = ap (λ (p : PassState). p.actor.seen) eq in
+    let F : PassState → PassState = λ p. record p { actor = seeing e word p.actor } in
+    let all : next ≡ record old { actor = record old.actor { seen = slice_set pass.actor.seen e x } } = eq ∙ ap F h.reads.rest in
+    let long : length next.actor.seen ≡ length pass.actor.seen = ap length seen ∙ length-set pass.actor.seen e x in
+    let within : Refines next.actor.seen pass.actor.seen = subst (λ (ws : List ℕ). Refines ws pass.actor.seen) (sym seen) (seen-within pass.actor.seen e word) in
+    let fell = sum-refines next.actor.seen pass.actor.seen long within in
+    record {
+      reads = record {
+        rest = all ∙ ap (λ (ws : List ℕ). let p : PassState = record old { actor = record old.actor { seen = ws } } in p) (sym seen);
+        length_is = long ∙ h.reads.length_is;
+        within = Refines-trans next.actor.seen pass.actor.seen old.actor.seen within h.reads.within;
+      };
+      snap_is = same_number_lists snap' next.actor.seen (ap length put ∙ length-set snap e word ∙ ap length h.snap_is ∙ sym long) (λ k b. elim (cases_eq k e) [
+        | inl same ↦
+            (let size = ap length put ∙ length-set snap e word in
+            let inside : e < length snap = omega (arith, size) in
+            rw same (ap (λ (ws : List ℕ). slice_index ws e) put ∙ get_or-set_same snap e word 0 inside ∙ sym shown))
+        | inr differ ↦ ap (λ (ws : List ℕ). slice_index ws k) put ∙ get_or-set_other snap e k word 0 differ ∙ ap (λ (ws : List ℕ). slice_index ws k) h.snap_is
+            ∙ sym (ap (λ (ws : List ℕ). slice_index ws k) seen ∙ get_or-set_other pass.actor.seen e k x 0 differ)
+      ]);
+      smaller = λ t. elim (or_cases less changed t) [
+        | inl u ↦ (let was = h.smaller u in omega arith)
+        | inr u ↦
+            (let less_now = sum-smaller next.actor.seen pass.actor.seen long within
+            (λ same. differs.0 u (sym shown ∙ ap (λ (ws : List ℕ). slice_index ws e) same ∙ ap (λ (ws : List ℕ). slice_index ws e) (sym h.snap_is))) in
+            let was = sum-refines pass.actor.seen old.actor.seen h.reads.length_is h.reads.within in
+            omega arith)
+      ];
+    }

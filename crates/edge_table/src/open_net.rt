@@ -80,12 +80,13 @@ pub fn open<C: Compose>(
 }
 
 impl OpenNet {
-    ghost use Rattle.std.specs.Prelude.{◌≡◌, ◌≢◌, ℕ, ◌<◌, ◌≤◌, ◌↔◌, IsTrue, IfOk, length, bit_and, slice_index};
+    ghost use Rattle.std.specs.Prelude.{◌≡◌, ◌≢◌, ℕ, ◌<◌, ◌≤◌, ◌↔◌, IsTrue, IfOk, length, sum, bit_and, slice_index};
     ghost use Rattle.calculus_table.specs.Rel.{IsWithin};
     ghost use Rattle.calculus_table.specs.Composition.{full_of, composition};
     ghost use Rattle.network_words.specs.Edge.{edge_count, edge_between, IsProperPair, IsProperTriple};
     ghost use Rattle.network_words.specs.Network.{IsNetwork, Refines, relation_between, oriented};
     ghost use Rattle.network_words.specs.Closure.{IsClosedAt};
+    ghost use Rattle.network_words.specs.declared.TheConstants.{MAX_NODES};
     ghost use Rattle.narrow_core.specs.Actor.{seeing, stating, giving, fresh, joining};
     ghost use Rattle.narrow_core.specs.Machine.{IsProperFact};
     ghost use Rattle.edge_table.specs.Opening.{IsPassOf, algebra_of, opening_over};
@@ -94,7 +95,9 @@ impl OpenNet {
 
     /// The number of nodes.
     pub fn nodes(&self) -> u32
-        ensures { result ≡ self.now.opening.nodes }
+        ensures value { result ≡ self.now.opening.nodes }
+        ensures some { 0 < result }
+        ensures bounded { result ≤ MAX_NODES }
     {
         self.nodes
     }
@@ -186,6 +189,7 @@ impl OpenNet {
         ensures pass { IsPassOf self.now pass.new }
         ensures reads { ReadsAll pass.old pass.new }
         ensures snap { snap.new ≡ pass.new.actor.seen }
+        ensures network { IsNetwork (algebra_of self.now.opening) self.now.opening.nodes snap.new }
     {
         // The proof needs what every pass keeps, which a use of its fields brings.
         let _weight = &pass.weight;
@@ -194,6 +198,26 @@ impl OpenNet {
             let word = self.load(pass, edge);
             snap.take(edge, word);
         }
+    }
+
+    /// Loads every word again, in edge order. Returns whether the pass has then seen less of some edge.
+    pub fn refresh_again(&self, pass: &mut Pass, snap: &mut Snapshot) -> bool
+        requires pass { IsPassOf self.now pass.old }
+        requires snap { snap.old ≡ pass.old.actor.seen }
+        ensures pass { IsPassOf self.now pass.new }
+        ensures reads { ReadsAll pass.old pass.new }
+        ensures less { IsTrue result → sum pass.new.actor.seen < sum pass.old.actor.seen }
+        ensures snap { snap.new ≡ pass.new.actor.seen }
+        ensures network { IsNetwork (algebra_of self.now.opening) self.now.opening.nodes snap.new }
+    {
+        // The proof needs what every pass keeps, which a use of its fields brings.
+        let _weight = &pass.weight;
+        let mut less = false;
+        for edge in 0..self.nodes * (self.nodes - 1) / 2 {
+            let word = self.load(pass, edge);
+            less |= snap.take(edge, word);
+        }
+        less
     }
 
     /// Two passes that have seen what this one has: the first keeps its facts and the rest of its

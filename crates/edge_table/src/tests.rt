@@ -210,15 +210,16 @@ fn stated(table: &OpenNet, mut pass: Pass, c: &Calculus, fact: Fact) -> Pass
     pass
 }
 
-/// What a second pass peeks and a third one refreshes, after the first has stated a fact.
-fn seen_by_others(alloc: Global, c: &Calculus, snap: &mut Snapshot) -> Option<u64> {
+/// What a second pass peeks and a third one refreshes, after the first has stated a fact, and whether the third then
+/// sees less: after one more fact, and after none.
+fn seen_by_others(alloc: Global, c: &Calculus, snap: &mut Snapshot) -> Option<(u64, bool, bool)> {
     let (table, pass) = opened(alloc, c, 3, 3).ok()?;
     let (first, second) = cut(&table, pass, 1)?;
     let (first, third) = cut(&table, first, 1)?;
     state_and_look(&table, c, first, second, third, snap)
 }
 
-/// The first pass states a fact, the second peeks at its pair, and the third reads every edge.
+/// The first pass states facts, the second peeks at the pair of one, and the third reads every edge.
 fn state_and_look(
     table: &OpenNet,
     c: &Calculus,
@@ -226,7 +227,7 @@ fn state_and_look(
     mut second: Pass,
     mut third: Pass,
     snap: &mut Snapshot,
-) -> Option<u64>
+) -> Option<(u64, bool, bool)>
     requires first { IsPassOf table.now first }
     requires second { IsPassOf table.now second }
     requires third { IsPassOf table.now third }
@@ -238,15 +239,19 @@ fn state_and_look(
     state(table, &mut first, c, fact(0, 1, TPP));
     let rel = table.peek(&mut second, c, 0, 1);
     table.refresh(&mut third, snap);
-    Some(rel.word())
+    state(table, &mut first, c, fact(1, 2, NTPP));
+    let less = table.refresh_again(&mut third, snap);
+    let same = table.refresh_again(&mut third, snap);
+    Some((rel.word(), less, same))
 }
 
 #[test]
 fn passes_see_what_others_state(rt: HostRuntime) -> Result<(), Fail> {
     let c = rcc8(rt.alloc())?;
     let mut snap = Snapshot::new(rt.alloc(), 3)?;
-    assert_eq!(rt; seen_by_others(rt.alloc(), &c, &mut snap), Some(TPP));
-    assert_eq!(rt; snap.words(), [TPP, 255, 255].as_slice());
+    let found = seen_by_others(rt.alloc(), &c, &mut snap);
+    assert_eq!(rt; found, Some((TPP, true, false)));
+    assert_eq!(rt; snap.words(), [TPP, 255, NTPP].as_slice());
     Ok(())
 }
 

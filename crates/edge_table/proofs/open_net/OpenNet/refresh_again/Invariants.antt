@@ -1,0 +1,9 @@
+use Rattle.edge_table.specs.Opening.{IsPassOf}
+use Rattle.edge_table.proofs.Passes.{IsReadAgain}
+use Rattle.edge_table.proofs.open_net.OpenNet.refresh_again.Given as goal
+
+abbrev pub invariant-loop-edge : goal.invariant-loop-edge
+invariant-loop-edge l = record {
+  pass : IsPassOf l.self l.pass;
+  sofar : IsReadAgain l.fn.pass l.pass l.snap l.less;
+}
