@@ -1,13 +1,14 @@
 -- The pieces of a round: each worker has a pass, a snapshot and a slice.
-use Rattle.std.specs.Prelude.{◌≡◌, ℕ, ◌<◌, ◌≤◌, ◌^◌, List, [], length}
+use Rattle.std.specs.Prelude.{◌≡◌, ℕ, ◌<◌, ◌≤◌, ◌^◌, List, [], length, Option}
 use Rattle.std.specs.List.{All, Contains}
 use Rattle.calculus_table.specs.Algebra.{Algebra}
 use Rattle.network_words.specs.Edge.{edge_count}
 use Rattle.network_words.specs.Network.{Refines}
 use Rattle.network_words.specs.Closure.{IsClosed}
-use Rattle.edge_table.specs.Opening.{OpenState, IsPassOf}
+use Rattle.edge_table.specs.Opening.{OpenState, IsPassOf, algebra_of}
 use Rattle.closure_workers.specs.declared.pieces.Piece.{Piece}
-use Rattle.closure_workers.specs.Slices.{HasClash, IsSliceClosed}
+use Rattle.closure_seq.specs.Copies.{CopyState}
+use Rattle.closure_workers.specs.Slices.{HasClash, IsSliceClosed, IsHeld}
 
 -- a piece of a table: its pass has one part of the weight, has stated nothing and has seen no more than the opening
 pub record IsPieceOf (table : OpenState) (piece : Piece) : Type 0 where
@@ -19,6 +20,11 @@ pub record IsPieceOf (table : OpenState) (piece : Piece) : Type 0 where
   pub order : piece.from ≤ piece.to
   pub below : piece.to ≤ edge_count table.opening.nodes
   pub few : piece.number < 2 ^ 31
+  pub held : IsHeld (algebra_of table.opening) piece.held
+
+-- copies that pieces hold from one round to the next
+abbrev pub AreHeld : Algebra → List (Option CopyState) → Type 0
+AreHeld m helds = All (IsHeld m) helds
 
 -- the piece after its work: it has seen its slice closed
 pub record HasRun (m : Algebra) (table : OpenState) (old new : Piece) : Type 0 where

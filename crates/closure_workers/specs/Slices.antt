@@ -1,8 +1,9 @@
 -- What a worker does with its slice, the edges of a range of numbers.
-use Rattle.std.specs.Prelude.{◌≡◌, ℕ, ◌<◌, ◌≤◌, ◌⊎◌, Bool, true, false, List, length, slice_index, sum}
+use Rattle.std.specs.Prelude.{◌≡◌, ℕ, ◌<◌, ◌≤◌, ◌⊎◌, Bool, true, false, List, length, slice_index, sum, Option, IfSome}
 use Rattle.calculus_table.specs.Algebra.{Algebra}
 use Rattle.network_words.specs.Edge.{edge_at}
 use Rattle.network_words.specs.Closure.{IsPairClosed, IsRangeClosed}
+use Rattle.closure_seq.specs.Copies.{CopyState, IsSettledCopy}
 use Rattle.edge_table.specs.Opening.{PassState}
 use Rattle.edge_table.specs.Passes.{ReadsAll}
 
@@ -23,6 +24,17 @@ pub record Looks (P : List ℕ → Type 0) (old new : PassState) (less : Bool) :
   pub reads : ReadsAll old new
   pub smaller : less ≡ true → sum new.actor.seen < sum old.actor.seen
   pub done : less ≡ false → (new ≡ old) × P new.actor.seen
+
+-- the copy, if there is one, is settled for its slice
+abbrev pub IsHeld : Algebra → Option CopyState → Type 0
+IsHeld m held = IfSome held (IsSettledCopy m)
+
+-- a copy that is settled for this slice
+pub record IsBegun (m : Algebra) (n from to : ℕ) (copy : CopyState) : Type 0 where
+  pub settled : IsSettledCopy m copy
+  pub nodes : copy.slice.nodes ≡ n
+  pub from_is : copy.slice.from ≡ from
+  pub to_is : copy.slice.to ≡ to
 
 -- the edge from i to k is closed if it lies in the slice
 abbrev pub IsListedClosed : Algebra → ℕ → ℕ → ℕ → ℕ → ℕ → List ℕ → Type 0

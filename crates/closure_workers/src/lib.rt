@@ -1,6 +1,7 @@
 //! Algebraic closure by several workers at once.
 #![tactic(auto)]
 
+mod copies;
 mod pieces;
 mod rounds;
 mod slices;

@@ -2,20 +2,24 @@
 
 ghost use Rattle.std.specs.Prelude.{◌≡◌, ℕ, ◌+◌, ◌<◌, ◌≤◌, ◌^◌, [], IfOk, List, length, vec_len, slice_index_or};
 ghost use Rattle.std.specs.List.{All};
+ghost use Rattle.calculus_table.specs.Algebra.{Algebra};
 ghost use Rattle.calculus_table.specs.Composition.{full_of};
 ghost use Rattle.network_words.specs.Edge.{edge_count};
 ghost use Rattle.network_words.specs.Network.{Refines};
 ghost use Rattle.narrow_core.specs.Actor.{fresh};
 ghost use Rattle.edge_table.specs.Opening.{IsPassOf, algebra_of};
-ghost use Rattle.closure_workers.specs.Pieces.{IsPieceOf, HasRun, AreDealt, IsBetween};
+ghost use Rattle.closure_workers.specs.Slices.{IsHeld};
+ghost use Rattle.closure_workers.specs.Pieces.{IsPieceOf, HasRun, AreDealt, AreHeld, IsBetween};
 
-use crate::slices::close_slice;
+use crate::slices::close_piece;
 use calculus_table::{Compose, Memory};
+use closure_seq::SliceCopy;
 use edge_table::{OpenNet, Pass, Snapshot};
 use qsr_outside::Gate;
 use std::alloc::Global;
 
-/// What one worker has in a round: a pass, the words that it has seen, and its slice of the edges.
+/// What one worker has in a round: a pass, the words that it has seen, its slice of the edges, the copy that it held in
+/// the round before, and how often it reads the words before it ends.
 #[derive(Drop)]
 pub(crate) struct Piece {
     pub(crate) pass: Pass,
@@ -23,7 +27,12 @@ pub(crate) struct Piece {
     pub(crate) from: u32,
     pub(crate) to: u32,
     pub(crate) number: u32,
+    pub(crate) held: Option<SliceCopy>,
+    pub(crate) times: u32,
 }
+
+/// How often a worker among others reads the words before it ends.
+const TIMES: u32 = 2;
 
 /// A piece over a slice.
 fn piece_of(
@@ -34,6 +43,7 @@ fn piece_of(
     from: u32,
     to: u32,
     number: u32,
+    held: Option<SliceCopy>,
 ) -> Result<Piece, Memory>
     requires pass { IsPassOf table.now pass }
     requires actor { pass.actor ≡ fresh 1 table.now.opening.words }
@@ -41,38 +51,61 @@ fn piece_of(
     requires order { from ≤ to }
     requires below { to ≤ edges }
     requires few { number < 2 ^ 31 }
+    requires held { IsHeld (algebra_of table.now.opening) held }
     ensures piece { IfOk result (λ piece. IsPieceOf table.now piece) }
     ensures from { IfOk result (λ piece. piece.from ≡ from) }
     ensures to { IfOk result (λ piece. piece.to ≡ to) }
 {
-    let snap = Snapshot::new(alloc, edges)?;
+    let snap = if held.is_some() {
+        Snapshot::plain(alloc, edges)?
+    } else {
+        Snapshot::new(alloc, edges)?
+    };
+    let times = if to - from < edges { TIMES } else { 0 };
     Ok(Piece {
         pass,
         snap,
         from,
         to,
         number,
+        held,
+        times,
     })
 }
 
-/// Deals the edges out among so many pieces, each with a part of the pass. Returns what is left of the pass.
+/// The copy that was left last, if there is one.
+fn next_held(helds: &mut Vec<Option<SliceCopy>>) -> Option<SliceCopy>
+    ensures held { (m : Algebra) → AreHeld m helds.old.items → IsHeld m result }
+    ensures rest { (m : Algebra) → AreHeld m helds.old.items → AreHeld m helds.new.items }
+{
+    match helds.pop() {
+        Some(held) => held,
+        None => None,
+    }
+}
+
+/// Deals the edges out among so many pieces, each with a part of the pass and a copy, if one is left. Returns what is
+/// left of the pass.
 pub(crate) fn deal(
     alloc: Global,
     table: &OpenNet,
     pass: Pass,
     edges: u32,
     count: u32,
+    helds: &mut Vec<Option<SliceCopy>>,
 ) -> Result<(Pass, Vec<Piece>), Memory>
     requires pass { IsPassOf table.now pass }
     requires actor { pass.actor ≡ fresh (count + 1) table.now.opening.words }
     requires edges { edges ≡ edge_count table.now.opening.nodes }
     requires some { 0 < count }
     requires few { count < 2 ^ 31 }
+    requires held { AreHeld (algebra_of table.now.opening) helds.old.items }
     ensures pass { IfOk result (λ r. IsPassOf table.now r.0) }
     ensures actor { IfOk result (λ r. r.0.actor ≡ fresh 1 table.now.opening.words) }
     ensures pieces { IfOk result (λ r. All (IsPieceOf table.now) r.1.items) }
     ensures dealt { IfOk result (λ r. AreDealt r.1.items (edge_count table.now.opening.nodes)) }
     ensures count { IfOk result (λ r. length r.1.items ≡ count) }
+    ensures held { IfOk result (λ _. AreHeld (algebra_of table.now.opening) helds.new.items) }
 {
     let mut pieces = Vec::new(alloc);
     let mut rest = pass;
@@ -81,7 +114,8 @@ pub(crate) fn deal(
         let to = from + (edges - from) / (count - number);
         let (kept, given) = table.split(rest, 1);
         rest = kept;
-        let piece = piece_of(alloc, table, given, edges, from, to, number)?;
+        let held = next_held(helds);
+        let piece = piece_of(alloc, table, given, edges, from, to, number, held)?;
         let Ok(()) = pieces.push(piece) else {
             return Err(Memory);
         };
@@ -102,24 +136,27 @@ pub(crate) fn run_piece<C: Compose, G: Gate>(
     ensures { HasRun (C.algebra c.now) table.now piece result }
 {
     gate.pass(piece.number);
-    close_slice(
+    close_piece(
         table,
         &mut piece.pass,
         c,
+        &mut piece.snap,
+        &mut piece.held,
         piece.from,
         piece.to,
-        &mut piece.snap,
+        piece.times,
     );
     gate.pass(1000 + piece.number);
     piece
 }
 
-/// Joins the passes of the pieces to `home`, and keeps the snapshots.
+/// Joins the passes of the pieces to `home`, and keeps the snapshots and the copies, those of the last piece first.
 pub(crate) fn gather(
     alloc: Global,
     table: &OpenNet,
     home: Pass,
     mut pieces: Vec<Piece>,
+    helds: &mut Vec<Option<SliceCopy>>,
 ) -> Result<(Pass, Vec<Snapshot>), Memory>
     requires home { IsPassOf table.now home }
     requires weight { home.actor.weight ≡ 1 }
@@ -127,12 +164,14 @@ pub(crate) fn gather(
     requires pieces { All (IsPieceOf table.now) pieces.items }
     requires opening { length table.now.opening.words ≡ edge_count table.now.opening.nodes }
     requires seen { All (λ piece. piece.snap ≡ piece.pass.actor.seen) pieces.items }
+    requires held { AreHeld (algebra_of table.now.opening) helds.old.items }
     ensures pass { IfOk result (λ r. IsPassOf table.now r.0) }
     ensures weight { IfOk result (λ r. r.0.actor.weight ≡ length pieces.items + 1) }
     ensures facts { IfOk result (λ r. r.0.actor.mine ≡ []) }
     ensures between { IfOk result (λ r. All (IsBetween r.0.actor.seen table.now.opening.words) r.1.items) }
     ensures each { IfOk result (λ r. (words : List ℕ) → All (λ s. s ≡ words) r.1.items
         → All (λ piece. piece.snap ≡ words) pieces.items) }
+    ensures held { IfOk result (λ _. AreHeld (algebra_of table.now.opening) helds.new.items) }
 {
     let mut snaps = Vec::new(alloc);
     let mut all = home;
@@ -143,9 +182,14 @@ pub(crate) fn gather(
             from: _,
             to: _,
             number: _,
+            held,
+            times: _,
         } = piece;
         all = table.join(all, pass);
         let Ok(()) = snaps.push(snap) else {
+            return Err(Memory);
+        };
+        let Ok(()) = helds.push(held) else {
             return Err(Memory);
         };
     }

@@ -14,11 +14,12 @@ ghost use Rattle.network_words.specs.Edge.{edge_count};
 ghost use Rattle.network_words.specs.Network.{IsNetwork};
 ghost use Rattle.network_words.specs.Closure.{IsClosed, KeepsClosed, IsClosure};
 ghost use Rattle.edge_table.specs.Opening.{algebra_of, IsPassOf};
-ghost use Rattle.closure_workers.specs.Pieces.{IsPieceOf, HasRun, IsBetween, AreClosedIfSeen};
+ghost use Rattle.closure_workers.specs.Pieces.{IsPieceOf, HasRun, IsBetween, AreHeld, AreClosedIfSeen};
 
 use crate::pieces::{Piece, deal, gather, run_piece};
 use crate::slices::is_clash;
 use calculus_table::{Compose, Memory, Rel, lawful};
+use closure_seq::{SliceCopy, close};
 use compose_fast::first_difference;
 use edge_table::{OpenNet, Snapshot, open};
 use network_words::Net;
@@ -49,7 +50,8 @@ fn run_pieces<R: Threads + Sync, C: Compose + Sync, G: Gate + Sync>(
     Ok(ran)
 }
 
-/// Narrows the network by all workers at once, and returns what each has seen in the end.
+/// Narrows the network by all workers at once, and returns what each has seen in the end. The workers take the copies
+/// that were held, and leave theirs.
 fn narrow_at_once<R: Threads + Sync, C: Compose + Sync, G: Gate + Sync>(
     rt: &R,
     alloc: Global,
@@ -57,20 +59,23 @@ fn narrow_at_once<R: Threads + Sync, C: Compose + Sync, G: Gate + Sync>(
     c: &C,
     gate: &G,
     count: u32,
+    helds: &mut Vec<Option<SliceCopy>>,
 ) -> Result<Vec<Snapshot>, Memory>
     requires network { IsNetwork (C.algebra c.now) net.old.nodes net.old.words }
     requires some { 0 < count }
     requires few { count ≤ 64 }
+    requires held { AreHeld (C.algebra c.now) helds.old.items }
     ensures rest { net.new ≡ record net.old { words = net.new.words } }
+    ensures held { OnOk result (AreHeld (C.algebra c.now) helds.new.items) }
     ensures kept { OnOk result (KeepsClosed (C.algebra c.now) net.old.nodes net.old.words net.new.words) }
     ensures between { IfOk result (λ snaps. All (IsBetween net.new.words net.old.words) snaps.items) }
     ensures closed { IfOk result (λ snaps. AreClosedIfSeen (C.algebra c.now) net.old.nodes net.new.words snaps.items) }
 {
     lawful(c);
     let (table, pass) = open(alloc, net, c, count + 1)?;
-    let (home, pieces) = deal(alloc, &table, pass, net.edges(), count)?;
+    let (home, pieces) = deal(alloc, &table, pass, net.edges(), count, helds)?;
     let pieces = run_pieces(rt, &table, c, gate, pieces)?;
-    let (pass, snaps) = gather(alloc, &table, home, pieces)?;
+    let (pass, snaps) = gather(alloc, &table, home, pieces, helds)?;
     table.close(pass, net);
     Ok(snaps)
 }
@@ -109,17 +114,20 @@ fn round<R: Threads + Sync, C: Compose + Sync, G: Gate + Sync>(
     c: &C,
     gate: &G,
     count: u32,
+    helds: &mut Vec<Option<SliceCopy>>,
 ) -> Result<bool, Memory>
     requires network { IsNetwork (C.algebra c.now) net.old.nodes net.old.words }
     requires some { 0 < count }
     requires few { count ≤ 64 }
+    requires held { AreHeld (C.algebra c.now) helds.old.items }
     ensures rest { net.new ≡ record net.old { words = net.new.words } }
+    ensures held { OnOk result (AreHeld (C.algebra c.now) helds.new.items) }
     ensures kept { OnOk result (KeepsClosed (C.algebra c.now) net.old.nodes net.old.words net.new.words) }
     ensures closed { IfOk result (λ closed. closed ≡ true → IsClosed (C.algebra c.now) net.old.nodes net.new.words) }
     ensures less { IfOk result (λ closed. closed ≡ false → sum net.new.words < sum net.old.words) }
 {
     lawful(c);
-    let snaps = narrow_at_once(rt, alloc, net, c, gate, count)?;
+    let snaps = narrow_at_once(rt, alloc, net, c, gate, count, helds)?;
     if is_clash(net.nodes(), net.words()) {
         empty_all(net);
         return Ok(true);
@@ -142,8 +150,27 @@ fn close_by_rounds<R: Threads + Sync, C: Compose + Sync, G: Gate + Sync>(
     ensures rest { net.new ≡ record net.old { words = net.new.words } }
     ensures closure { OnOk result (IsClosure (C.algebra c.now) net.old.nodes net.old.words net.new.words) }
 {
-    while !round(rt, alloc, net, c, gate, count)? {}
+    let mut helds = Vec::new(alloc);
+    while !round(rt, alloc, net, c, gate, count, &mut helds)? {}
     Ok(())
+}
+
+/// Closes the network on this thread, where one worker would have nobody to share the work with.
+fn close_alone<C: Compose, G: Gate>(
+    alloc: Global,
+    net: &mut Net,
+    c: &C,
+    gate: &G,
+) -> Result<(), Memory>
+    requires { IsNetwork (C.algebra c.now) net.old.nodes net.old.words }
+    ensures closure { OnOk result (IsClosure (C.algebra c.now) net.old.nodes net.old.words net.new.words) }
+    ensures rest { OnOk result (net.new ≡ record net.old { words = net.new.words }) }
+    ensures memory { OnErr result (net.new ≡ net.old) }
+{
+    gate.pass(0);
+    let closed = close(alloc, net, c);
+    gate.pass(1000);
+    closed
 }
 
 /// Closes the network by so many workers at once, from 1 to 64: its sets become those of its closure, the greatest
@@ -164,8 +191,11 @@ pub fn close_parallel<R: Threads + Sync, C: Compose + Sync, G: Gate + Sync>(
     ensures rest { OnOk result (net.new ≡ record net.old { words = net.new.words }) }
     ensures memory { OnErr result (net.new ≡ net.old) }
 {
-    let mut closed = net.copy()?;
     let count = workers.min(net.edges()).max(1);
+    if count == 1 {
+        return close_alone(alloc, net, c, gate);
+    }
+    let mut closed = net.copy()?;
     close_by_rounds(rt, alloc, &mut closed, c, gate, count)?;
     *net = closed;
     Ok(())

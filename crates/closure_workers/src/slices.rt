@@ -1,8 +1,9 @@
 //! A slice of the edges, closed by one pass.
 //!
-//! The pass reads every word, and then narrows each edge of its slice along every third node, as it has seen the
-//! other two edges. Where that made no word less, what it has seen is closed at each edge of the slice. Else it
-//! reads every word again, since others narrow them at once, and goes on.
+//! The pass reads every word and closes the slice on a copy (`copies`). Where there is no room for a copy, or the
+//! copy can't tell that the slice is closed, it sweeps: it narrows each edge of its slice along every third node, as
+//! it has seen the other two edges. Where that made no word less, what it has seen is closed at each edge of the
+//! slice. Else it reads every word again, since others narrow them at once, and goes on.
 //!
 //! Why it ends: the sum of the words that the pass has seen, as numbers, falls with each round that goes on.
 
@@ -12,16 +13,18 @@ ghost use Rattle.network_words.specs.Closure.{IsPairClosed, IsClosedAt};
 ghost use Rattle.network_words.specs.Edge.{IsProperTriple};
 ghost use Rattle.edge_table.specs.Opening.{IsPassOf, algebra_of};
 ghost use Rattle.edge_table.specs.Passes.{ReadsAll};
-ghost use Rattle.closure_workers.specs.Slices.{HasClash, IsSliceClosed, Looks, IsListedClosed};
+ghost use Rattle.closure_workers.specs.Slices.{HasClash, IsSliceClosed, Looks, IsListedClosed, IsHeld};
 
+use crate::copies::close_on_copy;
 use calculus_table::{Compose, lawful};
+use closure_seq::SliceCopy;
 use compose_fast::first_zero;
 use edge_table::{OpenNet, Pass, Snapshot};
-use network_words::{MAX_NODES, edge_between};
+use network_words::edge_between;
 
 /// Narrows the edge from `i` to `k` along `j`, if that is a third node. Returns whether the pass has then seen less
 /// of it.
-fn narrow_along<C: Compose>(
+pub(crate) fn narrow_along<C: Compose>(
     table: &OpenNet,
     pass: &mut Pass,
     c: &C,
@@ -98,12 +101,7 @@ fn narrow_listed<C: Compose>(
         (IsListedClosed (C.algebra c.now) table.now.opening.nodes from to i k)
         pass.old pass.new result }
 {
-    let nodes = table.nodes();
-    // No table has more nodes.
-    if nodes > MAX_NODES {
-        return narrow_edge(table, pass, c, snap, i, k);
-    }
-    let edge = edge_between(nodes, i, k);
+    let edge = edge_between(table.nodes(), i, k);
     if edge < from || to <= edge {
         return false;
     }
@@ -197,20 +195,36 @@ fn narrow_again<C: Compose>(
     narrow_slice(table, pass, c, snap, from, to)
 }
 
-/// Reads every word again.
-fn refresh_again(table: &OpenNet, pass: &mut Pass, snap: &mut Snapshot, edges: usize)
+/// Closes the edges of a slice, from the number `from` up to but without `to`, on a copy, which is held for the next
+/// time. Before it ends it reads the words so many times.
+pub(crate) fn close_piece<C: Compose>(
+    table: &OpenNet,
+    pass: &mut Pass,
+    c: &C,
+    snap: &mut Snapshot,
+    held: &mut Option<SliceCopy>,
+    from: u32,
+    to: u32,
+    times: u32,
+)
     requires pass { IsPassOf table.now pass.old }
-    requires snap { snap.old ≡ pass.old.actor.seen }
-    requires edges { edges ≡ edge_count table.now.opening.nodes }
+    requires calculus { C.algebra c.now ≡ algebra_of table.now.opening }
+    requires snap { length snap.old ≡ edge_count table.now.opening.nodes }
+    requires held { IsHeld (C.algebra c.now) held.old }
+    requires below { to ≤ edge_count table.now.opening.nodes }
     ensures pass { IsPassOf table.now pass.new }
     ensures reads { ReadsAll pass.old pass.new }
     ensures snap { snap.new ≡ pass.new.actor.seen }
+    ensures held { IsHeld (C.algebra c.now) held.new }
+    ensures closed { IsSliceClosed (C.algebra c.now) table.now.opening.nodes snap.new from to }
 {
-    // A snapshot never has another number of words.
-    if snap.words().len() != edges {
+    table.refresh(pass, snap);
+    if close_on_copy(table, pass, c, snap, held, from, to, times) {
         return;
     }
-    table.refresh(pass, snap);
+    while narrow_again(table, pass, c, snap, from, to) {
+        table.refresh_again(pass, snap);
+    }
 }
 
 /// Closes the edges of a slice, from the number `from` up to but without `to`: narrows them until what the pass has
@@ -234,9 +248,9 @@ pub fn close_slice<C: Compose>(
     ensures snap { snap.new ≡ pass.new.actor.seen }
     ensures closed { IsSliceClosed (C.algebra c.now) table.now.opening.nodes snap.new from to }
 {
-    let edges = snap.words().len();
-    table.refresh(pass, snap);
-    while narrow_again(table, pass, c, snap, from, to) {
-        refresh_again(table, pass, snap, edges);
+    let mut held = None;
+    close_piece(table, pass, c, snap, &mut held, from, to, 1);
+    if let Some(copy) = held {
+        snap.put_copy(copy);
     }
 }

@@ -7,7 +7,8 @@ use calculus_builtin::{allen, point, rcc8};
 use calculus_table::{Compose, Rel};
 use closure_seq::close;
 use compose_fast::Fast;
-use network_words::Net;
+use edge_table::{Snapshot, open};
+use network_words::{Net, edge_between};
 use qsr_outside::{Gate, NoGate};
 use std::alloc::Global;
 use std::process::Abort;
@@ -63,6 +64,45 @@ fn set_within<C: Compose>(net: &mut Net, c: &C, edge: u32, word: u64) {
     }
 }
 
+/// A network in which about one edge in `sparse` has a random set that has all of `base`, and the others are full. Where
+/// any two of the nodes may have one base relation of `base` at once, no set of the closure is empty.
+fn network_with<C: Compose>(
+    alloc: Global,
+    c: &C,
+    nodes: u32,
+    sparse: u64,
+    base: u64,
+) -> Result<Net, Fail>
+    requires { 0 < sparse }
+{
+    let mut net = Net::new(alloc, nodes, c.full())?;
+    let mut seed = u64::from(nodes).wrapping_add(sparse);
+    for edge in 0..net.edges() {
+        seed = next(seed);
+        if seed >> 40 & 1023 < 1024 / sparse {
+            set_within(&mut net, c, edge, seed >> 20 & seed >> 30 | base);
+        }
+    }
+    Ok(net)
+}
+
+/// A network in which each node has `word` to the next one, and the other edges are full.
+fn chain<C: Compose>(
+    rt: &impl Abort,
+    alloc: Global,
+    c: &C,
+    nodes: u32,
+    word: u64,
+) -> Result<Net, Fail> {
+    let mut net = Net::new(alloc, nodes, c.full())?;
+    for i in 1..nodes {
+        assert!(rt; i < net.nodes() && net.nodes() <= 256);
+        let edge = edge_between(net.nodes(), i - 1, i);
+        set_within(&mut net, c, edge, word);
+    }
+    Ok(net)
+}
+
 /// Closes the network by each number of workers and on one thread, and fails unless all are the same.
 fn assert_same<R: Threads + Sync + Abort, C: Compose + Sync>(
     rt: &R,
@@ -97,23 +137,79 @@ fn assert_closures<R: Threads + Sync + Abort, C: Compose + Sync>(
     Ok(())
 }
 
+/// Closes larger networks of one calculus: chains of `link`, and networks of each density whose sets have all of `base`.
+fn assert_larger<R: Threads + Sync + Abort, C: Compose + Sync>(
+    rt: &R,
+    alloc: Global,
+    c: &C,
+    link: u64,
+    base: u64,
+) -> Result<(), Fail> {
+    for nodes in [17, 40, 70] {
+        let net = chain(rt, alloc, c, nodes, link)?;
+        assert_same(rt, alloc, c, &net)?;
+        for sparse in [1, 2, 8] {
+            let net = network_with(alloc, c, nodes, sparse, base)?;
+            assert_same(rt, alloc, c, &net)?;
+        }
+        let net = random_network(alloc, c, nodes, u64::from(nodes), 7)?;
+        assert_same(rt, alloc, c, &net)?;
+    }
+    Ok(())
+}
+
 #[test]
 fn closes_regions_as_on_one_thread(rt: HostRuntime) -> Result<(), Fail> {
     let c = rcc8(rt.alloc())?;
-    assert_closures(&rt, rt.alloc(), &c)
+    assert_closures(&rt, rt.alloc(), &c)?;
+    // a chain of proper parts, and sets that have the non-tangential one
+    assert_larger(&rt, rt.alloc(), &c, 24, 16)
 }
 
 #[test]
 fn closes_intervals_as_on_one_thread(rt: HostRuntime) -> Result<(), Fail> {
     let intervals = allen(rt.alloc())?;
     let c = Fast::new(rt.alloc(), &intervals)?;
-    assert_closures(&rt, rt.alloc(), &c)
+    assert_closures(&rt, rt.alloc(), &c)?;
+    // a chain of intervals before or at the next, and sets that have `before`
+    assert_larger(&rt, rt.alloc(), &c, 3, 1)
 }
 
 #[test]
 fn closes_points_as_on_one_thread(rt: HostRuntime) -> Result<(), Fail> {
     let c = point(rt.alloc())?;
-    assert_closures(&rt, rt.alloc(), &c)
+    assert_closures(&rt, rt.alloc(), &c)?;
+    assert_larger(&rt, rt.alloc(), &c, 1, 1)
+}
+
+/// What a pass has seen when it has closed two slices of a network, and then all edges.
+fn seen_closed<C: Compose>(alloc: Global, c: &C, net: &Net) -> Option<Snapshot>
+    requires { IsNetwork (C.algebra c.now) net.now.nodes net.now.words }
+{
+    let edges = net.edges();
+    let Ok((table, mut pass)) = open(alloc, net, c, 1) else {
+        return None;
+    };
+    let Ok(mut snap) = Snapshot::new(alloc, edges) else {
+        return None;
+    };
+    close_slice(&table, &mut pass, c, 0, edges / 2, &mut snap);
+    close_slice(&table, &mut pass, c, edges / 2, edges, &mut snap);
+    close_slice(&table, &mut pass, c, 0, edges, &mut snap);
+    Some(snap)
+}
+
+#[test]
+fn a_pass_closes_slices(rt: HostRuntime) -> Result<(), Fail> {
+    let c = rcc8(rt.alloc())?;
+    for nodes in [2, 5, 40] {
+        let mut net = chain(&rt, rt.alloc(), &c, nodes, 24)?;
+        assert!(rt; is_network(&net, &c));
+        let snap = seen_closed(rt.alloc(), &c, &net).ok_or("out of memory")?;
+        close(rt.alloc(), &mut net, &c)?;
+        assert_eq!(rt; snap.words(), net.words(), "of {nodes} nodes");
+    }
+    Ok(())
 }
 
 #[test]

@@ -3,6 +3,7 @@ use Rattle.std.specs.List.{All}
 use Rattle.std.proofs.Math.Nat.{div-le_self}
 use Rattle.std.proofs.lemmas.List.Elements.{All-push}
 use Rattle.narrow_core.specs.Actor.{ActorState, fresh, giving}
+use Rattle.edge_table.specs.Opening.{algebra_of}
 use Rattle.closure_workers.specs.declared.pieces.Piece.{Piece}
 use Rattle.closure_workers.specs.Pieces.{IsPieceOf, AreDealt}
 use Rattle.closure_workers.proofs.OneRound.{AreDealt-push}
@@ -30,6 +31,7 @@ loop-number-preserved c =
       pass = c.split-kept.ensures.passes.0;
       actor = c.split-kept.ensures.first ∙ ap (λ (a : ActorState). giving 1 a) h.actor ∙ ap (λ w. fresh w table.opening.words) (let t = c.loop-number-test.true in omega arith);
       pieces = subst (λ (ps : List Piece). All (IsPieceOf table) ps) (sym items) (All-push (IsPieceOf table) old piece h.pieces c.in_ok-piece.ensures.piece);
+      held = c.next_held-held.ensures.rest (algebra_of table.opening) h.held;
       dealt = subst (λ (ps : List Piece). AreDealt ps to) (sym items) (AreDealt-push old piece from to h.dealt c.in_ok-piece.ensures.from c.in_ok-piece.ensures.to);
       length_is = ap length items ∙ (let l = length-append old (piece ∷ []) in let k = h.length_is in omega arith);
       below = (let part = div-le_self (c.args.edges - from) (c.args.count - number) in let b = h.below in let e = c.requires.edges in omega arith);

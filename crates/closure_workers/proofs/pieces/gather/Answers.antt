@@ -1,13 +1,16 @@
 use Rattle.std.proofs.Common.{◌≡◌, ℕ, ◌++◌, ◌∷◌, [], List, length, ap, ap₂, sym, subst, ◌∙◌, arith}
 use Rattle.std.specs.List.{All}
-use Rattle.std.specs.Prelude.{Some}
+use Rattle.std.specs.Prelude.{Option, Some}
 use Rattle.std.proofs.lemmas.Grind.{common_steps}
 use Rattle.std.proofs.lemmas.List.Elements.{All-push, All-pop, All-weaker}
 use Rattle.network_words.specs.Network.{Refines}
 use Rattle.network_words.proofs.Networks.{Refines-trans}
 use Rattle.narrow_core.specs.Actor.{ActorState, met_words}
 use Rattle.closure_workers.specs.declared.pieces.Piece.{Piece}
-use Rattle.closure_workers.specs.Pieces.{IsPieceOf, IsBetween}
+use Rattle.edge_table.specs.Opening.{algebra_of}
+use Rattle.closure_seq.specs.Copies.{CopyState}
+use Rattle.closure_workers.specs.Slices.{IsHeld}
+use Rattle.closure_workers.specs.Pieces.{IsPieceOf, AreHeld, IsBetween}
 use Rattle.narrow_core.proofs.Sights.{met-within_l, met-within_r}
 use Rattle.closure_workers.proofs.pieces.gather.Goals as goal
 
@@ -42,6 +45,7 @@ loop-piece-preserved c =
           (All-push (IsBetween c.join-all.result.actor.seen opening) c.loop-piece.snaps.items piece.snap
           (All-weaker (IsBetween all.seen opening) (IsBetween c.join-all.result.actor.seen opening)
           (λ s b. record { length_is = b.length_is; within = b.within; contains = Refines-trans c.join-all.result.actor.seen all.seen s less b.contains }) c.loop-piece.snaps.items h.between) last);
+      held = subst (λ (hs : List (Option CopyState)). AreHeld (algebra_of table.opening) hs) (sym c.in-Ok-push.ensures.items) (All-push (IsHeld (algebra_of table.opening)) c.loop-piece.helds.items piece.held h.held own.1.held);
       each = λ words same rest.
           let parts = All-pop (λ (s : List ℕ). s ≡ words) c.push.new.self.items c.loop-piece.snaps.items (Some piece.snap) snaps same in
           h.each words parts.0 (subst (λ (ps : List Piece). All (λ (p : Piece). p.snap ≡ words) ps) (sym items) (All-push (λ (p : Piece). p.snap ≡ words) left piece rest parts.1));

@@ -1,0 +1,12 @@
+use Rattle.std.proofs.Common.{List}
+use Rattle.std.specs.Prelude.{Option, Some}
+use Rattle.std.proofs.lemmas.List.Elements.{All-pop}
+use Rattle.closure_seq.specs.Copies.{CopyState}
+use Rattle.closure_workers.specs.Slices.{IsHeld}
+use Rattle.closure_workers.proofs.pieces.next_held.Goals as goal
+
+pub returns-in-Some-clause-held : goal.returns-in-Some-clause-held
+returns-in-Some-clause-held c = λ m all. (All-pop (IsHeld m) c.args.helds.now.items c.pop.new.self.items (Some c.in-Some.held) c.in-Some.ensures.items all).1
+
+pub returns-in-Some-clause-rest : goal.returns-in-Some-clause-rest
+returns-in-Some-clause-rest c = λ m all. (All-pop (IsHeld m) c.args.helds.now.items c.pop.new.self.items (Some c.in-Some.held) c.in-Some.ensures.items all).0
