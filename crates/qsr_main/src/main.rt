@@ -29,6 +29,7 @@ fn main(rt: HostRuntime) -> ExitCode {
     let mut source = StdSource::new(rt.stdin());
     let mut sink = StdSink::new(rt.stdout());
     let status = run(
+        &rt,
         rt.alloc(),
         &words,
         &mut shelf,

@@ -6,7 +6,7 @@ ghost use Rattle.network_words.specs.Network.{IsNetwork};
 ghost use Rattle.qsr_outside.specs.Counts.{Rose, RoseAbove};
 ghost use Rattle.qsr_outside.specs.Documents.{HasDocument};
 ghost use Rattle.qsr_words.specs.Asked.{close};
-ghost use Rattle.qsr_words.specs.Requests.{close_of};
+ghost use Rattle.qsr_words.specs.Requests.{close_of, AreWorkers};
 ghost use Rattle.qsr_top.specs.Stops.{HasCause, IsTooLongStop};
 ghost use Rattle.qsr_top.specs.Inputs.{builtin_of};
 ghost use Rattle.qsr_top.specs.Output.{IsVerdict, ClosesNetwork, CloseInput, Works};
@@ -18,22 +18,26 @@ use crate::inputs::{calculus, network};
 use crate::statuses::Status;
 use crate::stops::Stop;
 use calculus_table::{Calculus, Memory};
-use closure_seq::close;
+use closure_workers::close_parallel;
 use compose_fast::Fast;
 use network_file::text;
 use network_words::Net;
 use qsr_lex::MAX_TEXT;
-use qsr_outside::{Shelf, Source};
+use qsr_outside::{Gate, Shelf, Source};
 use qsr_words::Close;
 use std::alloc::Global;
+use std::thread::Threads;
 
 /// What the request writes, or why nothing.
-pub(crate) fn close_answer<F: Shelf, S: Source>(
+pub(crate) fn close_answer<R: Threads + Sync, F: Shelf, S: Source, G: Gate + Sync>(
+    rt: &R,
     alloc: Global,
     request: &Close,
     shelf: &mut F,
     source: &mut S,
+    gate: &G,
 ) -> Result<Answer, Stop>
+    requires { AreWorkers request.now.workers }
     ensures output { IfOk result (λ answer.
         WhereTold (Some (close (close_of request.now))) (F.documents shelf.old) (S.left source.old)
         (λ documents bytes. Works (CloseInput documents (string_bytes request.now.calculus) bytes)
@@ -66,21 +70,29 @@ pub(crate) fn close_answer<F: Shelf, S: Source>(
 {
     let calculus = calculus(alloc, shelf, request.calculus.as_str())?;
     let net = network(alloc, source, &calculus)?;
-    match closed_answer(alloc, net, &calculus) {
+    match closed_answer(rt, alloc, net, &calculus, request.workers, gate) {
         Ok(answer) => Ok(answer),
         Err(Memory) => Err(Stop::Memory),
     }
 }
 
 /// The text of the network's closure. It is computed with the calculus' tables, and written with its names.
-fn closed_answer(alloc: Global, mut net: Net, calculus: &Calculus) -> Result<Answer, Memory>
-    requires { IsNetwork calculus.now.algebra net.nodes net.words }
+fn closed_answer<R: Threads + Sync, G: Gate + Sync>(
+    rt: &R,
+    alloc: Global,
+    mut net: Net,
+    calculus: &Calculus,
+    workers: u32,
+    gate: &G,
+) -> Result<Answer, Memory>
+    requires network { IsNetwork calculus.now.algebra net.nodes net.words }
+    requires workers { AreWorkers workers }
     ensures output { IfOk result (λ answer.
         ClosesNetwork calculus.now net (string_bytes answer.text) answer.status) }
     ensures status { IfOk result (λ answer. IsVerdictStatus answer.status) }
 {
     let fast = Fast::new(alloc, calculus)?;
-    close(alloc, &mut net, &fast)?;
+    close_parallel(rt, alloc, &mut net, &fast, workers, gate)?;
     let status = verdict(&net);
     let text = text(alloc, &net, calculus)?;
     Ok(Answer { text, status })

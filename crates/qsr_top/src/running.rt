@@ -22,10 +22,12 @@ use qsr_lex::MAX_TEXT;
 use qsr_outside::{Gate, ReadStop, Shelf, Sink, Source, WriteStop, write_all};
 use qsr_words::{Request, read};
 use std::alloc::Global;
+use std::thread::Threads;
 
 /// Runs the reasoner on its words: reads the documents that they name and the source, as the command asks, and writes
 /// the answer to the sink.
-pub fn run<F: Shelf, S: Source, W: Sink, G: Gate + Sync>(
+pub fn run<R: Threads + Sync, F: Shelf, S: Source, W: Sink, G: Gate + Sync>(
+    rt: &R,
     alloc: Global,
     words: &[String],
     shelf: &mut F,
@@ -72,19 +74,20 @@ pub fn run<F: Shelf, S: Source, W: Sink, G: Gate + Sync>(
     ensures source_faults { S.faults source.old ≤ S.faults source.new }
     ensures sink_faults { W.faults sink.old ≤ W.faults sink.new }
 {
-    let _ = gate;
-    match answer(alloc, words, shelf, source) {
+    match answer(rt, alloc, words, shelf, source, gate) {
         Ok(answer) => write_answer(sink, &answer),
         Err(stop) => end_of_stop(stop),
     }
 }
 
 /// What is to be written, or why nothing is.
-fn answer<F: Shelf, S: Source>(
+fn answer<R: Threads + Sync, F: Shelf, S: Source, G: Gate + Sync>(
+    rt: &R,
     alloc: Global,
     words: &[String],
     shelf: &mut F,
     source: &mut S,
+    gate: &G,
 ) -> Result<Answer, ReadStop>
     ensures output { IfOk result (λ answer. WhereTold (asked_by (map string_bytes words.now))
         (F.documents shelf.old) (S.left source.old) (λ documents bytes.
@@ -122,7 +125,10 @@ fn answer<F: Shelf, S: Source>(
 {
     match read(alloc, words) {
         Ok(Request::Close(request)) => {
-            spoken(alloc, close_answer(alloc, &request, shelf, source))
+            spoken(
+                alloc,
+                close_answer(rt, alloc, &request, shelf, source, gate),
+            )
         }
         Ok(Request::Usage) => usage(alloc).map_err(|_| ReadStop::Memory),
         Err(Memory) => Err(ReadStop::Memory),

@@ -6,6 +6,7 @@ use std::alloc::Global;
 use std::process::Abort;
 use std::sync::atomic::{AtomicU64, Ordering};
 use std::test::Fail;
+use std::thread::Threads;
 
 const CLOSE: &[&str] = &["close", "rcc8"];
 
@@ -19,37 +20,47 @@ fn owned(alloc: Global, words: &[&str]) -> Result<Vec<String>, Fail> {
 }
 
 /// Runs over the forms in memory, whose numbered calls fail, and returns the status and what was written.
-fn ran<G: Gate + Sync>(
-    alloc: Global,
+fn ran<R: Threads + Sync + AllocGlobal, G: Gate + Sync>(
+    rt: &R,
     words: &[&str],
     source: &[u8],
     failing_reads: &[u32],
     failing_writes: &[u32],
     gate: &G,
 ) -> Result<(Status, Vec<u8>), Fail> {
+    let alloc = rt.alloc();
     let words = owned(alloc, words)?;
     let mut shelf = MapShelf::new(alloc, &[])?;
     let mut source = BytesSource::new(alloc, source, 4096, failing_reads)?;
     let mut sink = BytesSink::new(alloc, 5, failing_writes)?;
     sink.reserve(4096)?;
-    let status = run(alloc, &words, &mut shelf, &mut source, &mut sink, gate);
+    let status = run(rt, alloc, &words, &mut shelf, &mut source, &mut sink, gate);
     Ok((status, sink.bytes().to_vec(alloc)?))
 }
 
 /// Runs `close` over a shelf that has one document, `table`.
-fn closed_by_table(
-    alloc: Global,
+fn closed_by_table<R: Threads + Sync + AllocGlobal>(
+    rt: &R,
     table: &[u8],
     name: &str,
     source: &[u8],
 ) -> Result<(Status, Vec<u8>), Fail> {
+    let alloc = rt.alloc();
     let words = owned(alloc, &["close", name])?;
     let mut shelf = MapShelf::new(alloc, &[])?;
     shelf.put("table", table)?;
     let mut source = BytesSource::new(alloc, source, 4096, &[])?;
     let mut sink = BytesSink::new(alloc, 4096, &[])?;
     sink.reserve(4096)?;
-    let status = run(alloc, &words, &mut shelf, &mut source, &mut sink, &NoGate);
+    let status = run(
+        rt,
+        alloc,
+        &words,
+        &mut shelf,
+        &mut source,
+        &mut sink,
+        &NoGate,
+    );
     Ok((status, sink.bytes().to_vec(alloc)?))
 }
 
@@ -62,12 +73,12 @@ fn refused(number: u32, at: u64) -> Status {
 }
 
 /// Each row: the bytes of the source, the text that is written, and how the run ends.
-fn expect_rows(
-    rt: &(impl Abort + AllocGlobal),
+fn expect_rows<R: Threads + Sync + Abort + AllocGlobal>(
+    rt: &R,
     rows: &[(&[u8], &str, Status)],
 ) -> Result<(), Fail> {
     for (source, text, status) in rows {
-        let (ended, written) = ran(rt.alloc(), CLOSE, source, &[], &[], &NoGate)?;
+        let (ended, written) = ran(rt, CLOSE, source, &[], &[], &NoGate)?;
         assert_eq!(rt; ended, *status, "on {source:?}");
         assert_eq!(rt; written.as_slice(), text.as_bytes(), "on {source:?}");
     }
@@ -133,7 +144,7 @@ fn every_built_in_calculus_closes_a_network(rt: HostRuntime) -> Result<(), Fail>
         let answer = format!(in alloc; "nodes 3\n0 1 {first}\n0 2 {along}\n1 2 {second}\n.\n")?;
         for workers in ["--workers=1", "--workers=4", "--workers=64"].iter() {
             let words = ["close", *calculus, *workers];
-            let (status, written) = ran(alloc, &words, source.as_bytes(), &[], &[], &NoGate)?;
+            let (status, written) = ran(&rt, &words, source.as_bytes(), &[], &[], &NoGate)?;
             assert_eq!(rt; status, Status::Done);
             assert_eq!(rt; written.as_slice(), answer.as_bytes());
         }
@@ -148,13 +159,13 @@ const RAMSEY: &[u8] =
 #[test]
 fn a_table_file_gives_its_calculus(rt: HostRuntime) -> Result<(), Fail> {
     let source = b"nodes 3\n0 1 ( a b )\n0 2 ( a b )\n1 2 ( a b )\n.\n";
-    let (status, written) = closed_by_table(rt.alloc(), RAMSEY, "table", source)?;
+    let (status, written) = closed_by_table(&rt, RAMSEY, "table", source)?;
     assert_eq!(rt; status, Status::Done);
     assert_eq!(rt; written.as_slice(), source.as_slice());
     let rcc8 = rcc8(rt.alloc()).map_err(|_| "memory")?;
     let table = text(rt.alloc(), &rcc8).map_err(|_| "memory")?;
     let source = b"nodes 3\n0 1 ( TPP )\n1 2 ( NTPP )\n.\n";
-    let (status, written) = closed_by_table(rt.alloc(), table.as_bytes(), "table", source)?;
+    let (status, written) = closed_by_table(&rt, table.as_bytes(), "table", source)?;
     assert_eq!(rt; status, Status::Done);
     assert_eq!(rt;
         written.as_slice(),
@@ -173,7 +184,7 @@ fn a_faulty_table_is_refused_before_the_source_is_read(rt: HostRuntime) -> Resul
         (b"names ( a )\nidentity a\na :: a\n.\n", "refused 11 0 0\n"),
     ];
     for (table, line) in rows.iter() {
-        let (_, written) = closed_by_table(rt.alloc(), table, "table", b"no network")?;
+        let (_, written) = closed_by_table(&rt, table, "table", b"no network")?;
         assert_eq!(rt; written.as_slice(), line.as_bytes(), "{table:?}");
     }
     Ok(())
@@ -181,7 +192,7 @@ fn a_faulty_table_is_refused_before_the_source_is_read(rt: HostRuntime) -> Resul
 
 #[test]
 fn an_absent_table_file_fails(rt: HostRuntime) -> Result<(), Fail> {
-    let (status, written) = closed_by_table(rt.alloc(), RAMSEY, "nowhere", b"nodes 1\n.\n")?;
+    let (status, written) = closed_by_table(&rt, RAMSEY, "nowhere", b"nodes 1\n.\n")?;
     assert_eq!(rt; status, Status::ReadFault);
     assert_eq!(rt; written.len(), 0);
     Ok(())
@@ -247,7 +258,7 @@ fn other_words_have_the_usage_line(rt: HostRuntime) -> Result<(), Fail> {
         &["--help"],
     ];
     for words in wrong.iter() {
-        let (status, text) = ran(rt.alloc(), words, b"nodes 1\n.\n", &[0], &[], &NoGate)?;
+        let (status, text) = ran(&rt, words, b"nodes 1\n.\n", &[0], &[], &NoGate)?;
         assert_eq!(rt; status, Status::Usage);
         assert_eq!(rt; text.as_slice(), b"usage\n".as_slice());
     }
@@ -267,7 +278,7 @@ fn failing_streams_stop_the_run(rt: HostRuntime) -> Result<(), Fail> {
         (&[], &[1], Status::WriteFault, "nodes"),
     ];
     for (reads, writes, status, text) in rows.iter() {
-        let (ended, written) = ran(rt.alloc(), CLOSE, b"nodes 1\n.\n", reads, writes, &NoGate)?;
+        let (ended, written) = ran(&rt, CLOSE, b"nodes 1\n.\n", reads, writes, &NoGate)?;
         assert_eq!(rt; ended, *status, "reads {reads:?}, writes {writes:?}");
         assert_eq!(rt;
             written.as_slice(),
@@ -300,21 +311,61 @@ fn the_gate_is_not_passed_where_no_worker_runs(rt: HostRuntime) -> Result<(), Fa
         (&["help"], b"nodes 1\n.\n", Status::Usage),
     ];
     for (words, source, status) in rows.iter() {
-        let (ended, _) = ran(rt.alloc(), words, source, &[], &[], &gate)?;
+        let (ended, _) = ran(&rt, words, source, &[], &[], &gate)?;
         assert_eq!(rt; ended, *status);
         assert_eq!(rt; gate.passes.load(Ordering::SeqCst), 0);
     }
     Ok(())
 }
 
+/// A gate that holds each of the points 0 and 1 until both were reached, for a number of turns at most.
+#[derive(Drop)]
+struct Meeting {
+    reached: AtomicU64,
+    passed: AtomicU64,
+    missed: AtomicU64,
+}
+
+impl Gate for Meeting {
+    fn pass(&self, point: u32) {
+        if point > 1 {
+            return;
+        }
+        self.reached.fetch_or(1 << point, Ordering::SeqCst);
+        for _ in 0..200_000_000u64 {
+            if self.reached.load(Ordering::SeqCst) & 3 == 3 {
+                self.passed.fetch_or(1 << point, Ordering::SeqCst);
+                return;
+            }
+        }
+        self.missed.store(1, Ordering::SeqCst);
+    }
+}
+
+#[test]
+fn two_workers_begin_before_either_ends(rt: HostRuntime) -> Result<(), Fail> {
+    let gate = Meeting {
+        reached: AtomicU64::new(0),
+        passed: AtomicU64::new(0),
+        missed: AtomicU64::new(0),
+    };
+    let words = ["close", "rcc8", "--workers", "2"];
+    let source = b"nodes 3\n0 1 ( TPP )\n1 2 ( NTPP )\n.\n";
+    let (status, _) = ran(&rt, &words, source, &[], &[], &gate)?;
+    assert_eq!(rt; status, Status::Done);
+    assert_eq!(rt; gate.passed.load(Ordering::SeqCst), 3);
+    assert_eq!(rt; gate.missed.load(Ordering::SeqCst), 0);
+    Ok(())
+}
+
 #[test]
 fn sources_past_the_limit_are_too_long(rt: HostRuntime) -> Result<(), Fail> {
     let mut source = vec![in rt.alloc(); b'\n'; 16_777_216]?;
-    let (status, text) = ran(rt.alloc(), CLOSE, &source, &[], &[], &NoGate)?;
+    let (status, text) = ran(&rt, CLOSE, &source, &[], &[], &NoGate)?;
     assert_eq!(rt; status, refused(20, 16_777_216));
     assert_eq!(rt; text.as_slice(), b"refused 20 16777216\n".as_slice());
     source.push(b'\n')?;
-    let (status, text) = ran(rt.alloc(), CLOSE, &source, &[], &[], &NoGate)?;
+    let (status, text) = ran(&rt, CLOSE, &source, &[], &[], &NoGate)?;
     assert_eq!(rt; status, Status::TooLong);
     assert_eq!(rt; text.len(), 0);
     Ok(())

@@ -1,9 +1,9 @@
 //! The words of `close`: a calculus, and optionally a number of workers.
-ghost use Rattle.std.specs.Prelude.{◌≡◌, ◌≢◌, [], IfOk, MatchOption, map, option_map};
+ghost use Rattle.std.specs.Prelude.{◌≡◌, ◌≢◌, [], IfOk, IfSome, MatchOption, map, option_map};
 ghost use Rattle.std.specs.String.{string_bytes};
 ghost use Rattle.clap.specs.Words.{app_of, fault_of, found_of, matches_of, rows_of};
 ghost use Rattle.qsr_words.specs.Asked.{close_app, close_asked, workers_asked};
-ghost use Rattle.qsr_words.specs.Requests.{close_of};
+ghost use Rattle.qsr_words.specs.Requests.{close_of, AreWorkers};
 
 use crate::{MAX_WORKERS, MIN_WORKERS, USUAL_WORKERS};
 use calculus_table::Memory;
@@ -23,8 +23,9 @@ pub struct Close {
 
 /// What the words ask of `close`, if they are its.
 pub(crate) fn read(alloc: Global, words: &[String]) -> Result<Option<Close>, Memory>
-    ensures { IfOk result (λ close.
+    ensures asked { IfOk result (λ close.
         option_map close_of close ≡ close_asked (map string_bytes words.now)) }
+    ensures workers { IfOk result (λ close. IfSome close (λ c. AreWorkers c.workers)) }
 {
     let Some(found) = found(alloc, words)? else {
         return Ok(None);
@@ -69,7 +70,8 @@ fn found<'a>(alloc: Global, words: &'a [String]) -> Result<Option<ArgMatches<'a>
 
 /// The number of workers that a word names, or the usual one where there is no word.
 fn workers(word: Option<&str>) -> Option<u32>
-    ensures { result ≡ workers_asked (option_map (λ text. text.now) word.entry) }
+    ensures value { result ≡ workers_asked (option_map (λ text. text.now) word.entry) }
+    ensures within { IfSome result AreWorkers }
 {
     let Some(word) = word else {
         return Some(USUAL_WORKERS);

@@ -3,7 +3,7 @@ ghost use Rattle.std.specs.Prelude.{◌≡◌, IfOk, map};
 ghost use Rattle.std.specs.List.{list_any};
 ghost use Rattle.std.specs.String.{string_bytes};
 ghost use Rattle.qsr_words.specs.Asked.{asked_by, is_strange};
-ghost use Rattle.qsr_words.specs.Requests.{asked_of};
+ghost use Rattle.qsr_words.specs.Requests.{asked_of, HasWorkers};
 
 use crate::close;
 use crate::close::Close;
@@ -21,7 +21,8 @@ pub enum Request {
 
 /// What the words ask for. They are the arguments without the program's name.
 pub fn read(alloc: Global, words: &[String]) -> Result<Request, Memory>
-    ensures { IfOk result (λ request. asked_of request ≡ asked_by (map string_bytes words.now)) }
+    ensures asked { IfOk result (λ request. asked_of request ≡ asked_by (map string_bytes words.now)) }
+    ensures workers { IfOk result HasWorkers }
 {
     if has_strange(words) {
         return Ok(Request::Usage);
