@@ -28,17 +28,20 @@ ghost use Rattle.network_words.specs.Network.{IsNetwork};
 use calculus_builtin::rcc8;
 use calculus_table::{Compose, Memory, Rel};
 use closure_seq::{ClosedPath, Work, close_with};
-use compose_fast::Fast;
+use compose_fast::{Fast, without};
 use network_words::{Net, edge_between};
 use std::alloc::Global;
 use std::io;
 use std::io::Read;
 use std::time::{Clock, Instant};
 
+/// How many steps are taken: some 7,900 narrowings and as many steps back.
+const STEPS: u32 = 15_800;
+
 /// One step of a walk.
 #[derive(Clone, Copy)]
 enum Step {
-    Narrow { edge: u32, set: u64 },
+    Narrow { edge: u32, set: Rel },
     Back,
 }
 
@@ -90,9 +93,8 @@ fn open_edge(path: &ClosedPath, from: u32) -> Option<u32> {
 fn take(path: &mut ClosedPath, step: Step) -> Result<(), Memory> {
     match step {
         Step::Narrow { edge, set } => {
-            let rel = Rel::of(set);
-            if edge < path.edges() && rel.within(path.word(edge)) {
-                path.narrow(edge, rel)?;
+            if edge < path.edges() && set.within(path.word(edge)) {
+                path.narrow(edge, set)?;
             }
         }
         Step::Back => {
@@ -104,33 +106,49 @@ fn take(path: &mut ClosedPath, step: Step) -> Result<(), Memory> {
     Ok(())
 }
 
-/// The steps of a search, at most so many.
+/// A set's least member, and the others.
+fn split(word: Rel) -> Option<(Rel, Rel)> {
+    if word.is_empty() {
+        return None;
+    }
+    let least = word.least();
+    Some((Rel::single(least), without(word, least)))
+}
+
+/// The next edge of more than one base relation from `from` on, with its least one and the others.
+fn next_split(path: &ClosedPath, from: u32) -> Option<(u32, Rel, Rel)> {
+    if path.is_empty() {
+        return None;
+    }
+    let edge = open_edge(path, from)?;
+    if edge >= path.edges() {
+        return None;
+    }
+    let (first, others) = split(path.word(edge))?;
+    Some((edge, first, others))
+}
+
+/// So many steps of a search. For each level it keeps what is still to be tried in its place.
 fn steps_of(alloc: Global, path: &mut ClosedPath, count: u32) -> Result<Vec<Step>, Memory> {
     let mut steps = Vec::new(alloc);
-    let mut splits: Vec<(u32, u64)> = Vec::new(alloc);
+    let mut untried: Vec<Option<(u32, Rel)>> = Vec::new(alloc);
+    let mut next: Option<(u32, Rel)> = None;
     let mut from = 0;
     for _ in 0..count {
-        let found = if path.is_empty() { None } else { open_edge(path, from) };
-        let step = if let Some(edge) = found
-            && edge < path.edges()
-        {
-            let word = path.word(edge).word();
-            let set = word & word.wrapping_neg();
+        let step = if let Some((edge, set)) = next {
+            untried.push(None).map_err(|_| Memory)?;
+            next = None;
+            Step::Narrow { edge, set }
+        } else if let Some((edge, set, others)) = next_split(path, from) {
+            untried.push(Some((edge, others))).map_err(|_| Memory)?;
             from = edge.wrapping_mul(40_503).wrapping_add(7) % 8_128;
-            splits.push((edge, word ^ set)).map_err(|_| Memory)?;
             Step::Narrow { edge, set }
         } else {
+            next = untried.pop().unwrap_or(None);
             Step::Back
         };
         steps.push(step).map_err(|_| Memory)?;
         take(path, step)?;
-        if let Step::Back = step
-            && let Some((edge, set)) = splits.pop()
-        {
-            let step = Step::Narrow { edge, set };
-            steps.push(step).map_err(|_| Memory)?;
-            take(path, step)?;
-        }
     }
     Ok(steps)
 }
@@ -157,7 +175,7 @@ fn walk_copies(alloc: Global, net: &Net, c: &Fast, steps: &[Step]) -> Result<Net
             Step::Narrow { edge, set } => {
                 let mut next = top.copy()?;
                 if edge < next.edges() {
-                    next.set(edge, Rel::of(set));
+                    next.set(edge, set);
                 }
                 if is_network(&next, c) {
                     close_with(&mut next, c, &mut work);
@@ -232,7 +250,7 @@ fn main(rt: HostRuntime) -> io::Result<()> {
     if !is_network(&net, &fast) {
         return Ok(());
     }
-    let (steps, on_path, some, on_copies, same) = timed(&rt, &net, &fast, 5267)?;
+    let (steps, on_path, some, on_copies, same) = timed(&rt, &net, &fast, STEPS)?;
     println!(rt; "{steps} {on_path} {some} {on_copies} {same}")
 }
 """

@@ -1,5 +1,5 @@
 """What the measures share: where the program is, and how a command is timed."""
-import os, shutil, statistics, subprocess, time
+import os, shutil, statistics, subprocess, sys, time
 
 TOP = os.path.dirname(os.path.dirname(os.path.abspath(__file__)))
 PROGRAM = [os.path.join(TOP, "crates/qsr_main/out/qsr_main"), "close", "rcc8"]
@@ -17,9 +17,12 @@ def timed(command, path, turns):
 
 
 def build_program(folder, name, depends, files):
-    """Proves and builds a program of these files over copies of the crates, in the folder; returns its path."""
+    """Proves and builds a program of these files over copies of the crates, in the folder; returns its path. What checks kept of the crates that it
+    depends on is copied as well, so that it isn't done again."""
     crates = os.path.join(folder, "crates")
-    shutil.copytree(os.path.join(TOP, "crates"), crates, ignore=shutil.ignore_patterns("out", "must-fail"))
+    for crate in os.listdir(os.path.join(TOP, "crates")):
+        left_out = ["must-fail"] if crate in depends.split() else ["must-fail", "out"]
+        shutil.copytree(os.path.join(TOP, "crates", crate), os.path.join(crates, crate), ignore=shutil.ignore_patterns(*left_out))
     shutil.copy(os.path.join(TOP, "HANDLES"), folder)
     with open(os.path.join(TOP, "crates.txt")) as file:
         listed = file.read()
@@ -32,5 +35,7 @@ def build_program(folder, name, depends, files):
         with open(path, "w") as file:
             file.write(text)
     subprocess.run(["git", "init", "-q"], cwd=folder, check=True)
-    subprocess.run(["rt", "run"], cwd=own, stdin=subprocess.DEVNULL, check=True, capture_output=True)
+    built = subprocess.run(["rt", "run"], cwd=own, stdin=subprocess.DEVNULL, stdout=subprocess.PIPE, stderr=subprocess.STDOUT)
+    if built.returncode != 0:
+        sys.exit(built.stdout.decode(errors="replace"))
     return os.path.join(own, "out", name)

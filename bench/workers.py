@@ -1,31 +1,32 @@
 #!/usr/bin/env python3
 """Times the closure of a network by workers, beside the same on one thread in the same run.
 
-Usage: bench/workers.py [NODES ..]      (default: 128)
+Usage: bench/workers.py [NODES ..]      (default: 3 20 64 128 256)
 
 The library has no program of its own, so this writes a small one into a folder for temporary files, with copies of the crates, and has it
-proved and built there, which takes as long as proving those crates does where no check was kept. The program reads a network of regions and closes it
-by `closure_seq`, by one worker and by four. All have to end with the same sets. Prints one line for each network: the median
-microseconds of each.
+proved and built there, which takes as long as proving those crates does where no check was kept. The program reads a network of regions or of intervals
+and closes it by `closure_seq`, by one worker and by four, five times. All have to end with the same sets. Prints one line for each network: the median
+microseconds of each, and the ratios of one worker to one thread and of four workers to one.
 """
-import os, shutil, statistics, subprocess, sys, tempfile
+import os, random, shutil, statistics, subprocess, sys, tempfile
 
 from closure import chain, random_network
 from timing import TOP
 
-TURNS = 5
+INTERVALS = "b bi m mi o oi s si d di f fi eq".split()
 DEPENDS = (
     "calculus_table calculus_builtin compose_fast network_words network_file qsr_lex qsr_outside edge_table narrow_core closure_seq closure_workers"
 )
 
-PROGRAM = """//! Closes a network of regions on one thread, by one worker and by four. Writes the microseconds of each, and whether the same sets
-//! came out.
+PROGRAM = """//! Closes a network on one thread, by one worker and by four, a few times. Writes a line for each: the microseconds of the three, and
+//! whether the same sets came out. A network that begins with a comment is one of intervals, another one of regions.
 #![tactic(auto)]
 
-ghost use Rattle.std.specs.Prelude.{◌≡◌, ◌<◌, ◌≤◌};
+ghost use Rattle.std.specs.Prelude.{◌≡◌, ◌<◌, ◌≤◌, IfSome};
 ghost use Rattle.network_words.specs.Network.{IsNetwork};
 
-use calculus_builtin::rcc8;
+use calculus_builtin::{allen, rcc8};
+use calculus_table::Calculus;
 use closure_seq::close;
 use closure_workers::close_parallel;
 use compose_fast::Fast;
@@ -59,41 +60,66 @@ fn by_workers<R: Threads + Sync + Clock>(rt: &R, alloc: Global, net: &mut Net, c
     Ok(start.elapsed(rt)?.as_micros())
 }
 
-/// The microseconds of all three, and whether the same sets came out.
-fn timed<R: Threads + Sync + Clock>(rt: &R, alloc: Global, mut net: Net, c: &Fast) -> io::Result<(u128, u128, u128, bool)>
-    requires { IsNetwork c.now net.nodes net.words }
+/// The microseconds of closing on one thread, by one worker and by four, and whether the same sets came out.
+fn timed<R: Threads + Sync + Clock>(rt: &R, alloc: Global, net: &Net, c: &Fast) -> io::Result<(u128, u128, u128, bool)>
+    requires { IsNetwork c.now net.now.nodes net.now.words }
 {
+    let Ok(mut plain) = net.copy() else {
+        return Ok((0, 0, 0, false));
+    };
     let Ok(mut one) = net.copy() else {
         return Ok((0, 0, 0, false));
     };
     let Ok(mut four) = net.copy() else {
         return Ok((0, 0, 0, false));
     };
-    let plain = on_one_thread(rt, alloc, &mut net, c)?;
+    let by_plain = on_one_thread(rt, alloc, &mut plain, c)?;
     let by_one = by_workers(rt, alloc, &mut one, c, 1)?;
     let by_four = by_workers(rt, alloc, &mut four, c, 4)?;
-    let same = net.words() == one.words() && net.words() == four.words();
-    Ok((plain, by_one, by_four, same))
+    let same = plain.words() == one.words() && plain.words() == four.words();
+    Ok((by_plain, by_one, by_four, same))
+}
+
+/// The network and the tables of its calculus.
+fn made(alloc: Global, bytes: &[u8], c: &Calculus) -> Option<(Net, Fast)>
+    ensures { IfSome result (λ r. IsNetwork r.1 r.0.nodes r.0.words) }
+{
+    let Ok(fast) = Fast::new(alloc, c) else {
+        return None;
+    };
+    if bytes.len() > MAX_TEXT {
+        return None;
+    }
+    let Ok(net) = read(alloc, bytes, c) else {
+        return None;
+    };
+    Some((net, fast))
+}
+
+/// The calculus of the network.
+fn calculus(alloc: Global, bytes: &[u8]) -> Option<Calculus> {
+    if bytes.len() > 0 && bytes[0] == b'#' {
+        allen(alloc).ok()
+    } else {
+        rcc8(alloc).ok()
+    }
 }
 
 fn main(rt: HostRuntime) -> io::Result<()> {
     let alloc = rt.alloc();
     let mut bytes = Vec::new(alloc);
     rt.stdin().read_to_end(&mut bytes)?;
-    let Ok(calculus) = rcc8(alloc) else {
+    let Some(c) = calculus(alloc, &bytes) else {
         return Ok(());
     };
-    let Ok(fast) = Fast::new(alloc, &calculus) else {
+    let Some((net, fast)) = made(alloc, &bytes, &c) else {
         return Ok(());
     };
-    if bytes.len() > MAX_TEXT {
-        return Ok(());
+    for _ in 0..5 {
+        let (plain, by_one, by_four, same) = timed(&rt, alloc, &net, &fast)?;
+        println!(rt; "{plain} {by_one} {by_four} {same}")?;
     }
-    let Ok(net) = read(alloc, &bytes, &calculus) else {
-        return Ok(());
-    };
-    let (plain, by_one, by_four, same) = timed(&rt, alloc, net, &fast)?;
-    println!(rt; "{plain} {by_one} {by_four} {same}")
+    Ok(())
 }
 """
 
@@ -118,21 +144,53 @@ def build(folder):
     return os.path.join(own, "out", "worker_times")
 
 
+def interval_network(nodes, degree, seed):
+    """About `degree` facts at each node, each a random set with the relation that random intervals have."""
+    rng = random.Random(seed)
+    intervals = []
+    for _ in range(nodes):
+        begin = rng.uniform(0, 100)
+        intervals.append((begin, begin + rng.choice([3, 10, 30])))
+
+    def relation(a, b):
+        if a[1] < b[0]:
+            return "b"
+        if b[1] < a[0]:
+            return "bi"
+        if a[0] < b[0]:
+            return "o" if a[1] < b[1] else "di"
+        return "oi" if a[1] > b[1] else "d"
+
+    pairs = [(i, j) for i in range(nodes) for j in range(i + 1, nodes)]
+    lines = ["# intervals", f"nodes {nodes}"]
+    for i, j in rng.sample(pairs, min(nodes * degree // 2, len(pairs))):
+        chosen = {relation(intervals[i], intervals[j])} | set(rng.sample(INTERVALS, rng.randint(0, 4)))
+        lines.append(f"{i} {j} ( " + " ".join(b for b in INTERVALS if b in chosen) + " )")
+    return "\n".join(lines + ["."]) + "\n"
+
+
 def main():
-    sizes = [int(word) for word in sys.argv[1:]] or [128]
+    sizes = [int(word) for word in sys.argv[1:]] or [3, 20, 64, 128, 256]
     with tempfile.TemporaryDirectory() as folder:
         program = build(folder)
         for nodes in sizes:
-            dense = random_network(nodes, nodes, 1)
-            for kind, text in (("chain", chain(nodes)), ("random, degree 12", random_network(nodes, 12, 1)), ("random, every pair", dense)):
-                runs = []
-                for _ in range(TURNS):
-                    *times, same = subprocess.run([program], input=text, capture_output=True, text=True, check=True).stdout.split()
-                    if same != "true":
-                        sys.exit(f"{kind} of {nodes}: the sets differ")
-                    runs.append([int(time) for time in times])
-                plain, one, four = (statistics.median(column) for column in zip(*runs))
-                print(f"{kind}, {nodes} nodes: one thread {plain} us, one worker {one}, four workers {four}", flush=True)
+            kinds = (
+                ("chain", chain(nodes)),
+                ("regions, degree 12", random_network(nodes, 12, 1)),
+                ("regions, every pair", random_network(nodes, nodes, 1)),
+                ("intervals, degree 12", interval_network(nodes, 12, 1)),
+                ("intervals, every pair", interval_network(nodes, nodes, 1)),
+            )
+            for kind, text in kinds:
+                out = subprocess.run([program], input=text, capture_output=True, text=True, check=True).stdout
+                rows = [line.split() for line in out.splitlines()]
+                if not rows or any(row[3] != "true" for row in rows):
+                    sys.exit(f"{kind} of {nodes}: the sets differ")
+                plain, one, four = (statistics.median(int(row[column]) for row in rows) for column in range(3))
+                print(
+                    f"{kind}, {nodes} nodes: one thread {plain} us, one worker {one} ({one / plain:.2f}), four workers {four} ({four / one:.2f})",
+                    flush=True,
+                )
 
 
 if __name__ == "__main__":
