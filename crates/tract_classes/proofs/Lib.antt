@@ -1,0 +1,10 @@
+pub mod Ascending
+pub mod ClassRows
+pub mod FirstMembers
+pub mod ReadClasses
+pub mod LargestMembers
+pub mod Counts
+pub mod Leftovers
+pub mod PartsOfSets
+pub mod BuiltInClasses
+pub mod ClassAnswers

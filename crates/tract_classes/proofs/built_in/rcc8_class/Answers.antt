@@ -1,0 +1,7 @@
+use Rattle.std.proofs.Common.{sym, subst}
+use Rattle.tract_classes.specs.Class.{IsClass}
+use Rattle.tract_classes.proofs.BuiltInClasses.{members-class}
+use Rattle.tract_classes.proofs.built_in.rcc8_class.Goals as goal
+
+pub new-requires : goal.new-requires
+new-requires c = subst IsClass (sym c.in-Ok.ensures) (members-class c.args.which)

@@ -1,0 +1,73 @@
+//! The tests of a class: that each base relation is a member by itself, and that the class is closed under converse,
+//! intersection and composition.
+//!
+//! Each test goes through the members in ascending order, and stops at the first that fails. For `n` members the last
+//! takes `n * n` compositions, a million for the greatest class.
+ghost use Rattle.std.specs.Prelude.{◌≡◌, ℕ, ◌<◌, ◌≤◌, MatchResult, MatchOption, Contains};
+ghost use Rattle.calculus_table.specs.Calculus.{EachBase, IsFirstBase};
+ghost use Rattle.tract_classes.specs.Class.{EachMember, IsClosedClass, HasBase, HasConverse, AreSetsOf};
+ghost use Rattle.tract_classes.specs.ClassFault.{IsFirstMember, IsFaultOf};
+
+use crate::class::Class;
+use crate::fault::{COMPOSITION, CONVERSE, ClassFault, MEET};
+use crate::pairs::{first_without_composition, first_without_meet};
+use calculus_table::{Compose, Rel};
+
+/// Whether the class has each base relation and is closed: the first fault, if it isn't.
+pub(crate) fn check_closed<C: Compose>(class: &Class, c: &C) -> Result<(), ClassFault>
+    requires { AreSetsOf (C.algebra c.now) class.now }
+    ensures { MatchResult result
+        (λ _. IsClosedClass (C.algebra c.now) class.now)
+        (IsFaultOf (C.algebra c.now) class.now) }
+{
+    if let Some(r) = first_missing_base(class, c) {
+        return Err(ClassFault::LacksBase { r });
+    }
+    if let Some(a) = first_without_converse(class, c) {
+        return Err(ClassFault::NotClosed {
+            a,
+            b: 0,
+            op: CONVERSE,
+        });
+    }
+    if let Some((a, b)) = first_without_meet(class) {
+        return Err(ClassFault::NotClosed { a, b, op: MEET });
+    }
+    if let Some((a, b)) = first_without_composition(class, c) {
+        return Err(ClassFault::NotClosed {
+            a,
+            b,
+            op: COMPOSITION,
+        });
+    }
+    Ok(())
+}
+
+/// The least base relation that isn't a member by itself.
+pub(crate) fn first_missing_base<C: Compose>(class: &Class, c: &C) -> Option<u32>
+    ensures { MatchOption result
+        (EachBase (C.algebra c.now) (HasBase class.now))
+        (IsFirstBase (C.algebra c.now) (HasBase class.now)) }
+{
+    for r in 0..c.size() {
+        if !class.has(Rel::single(r)) {
+            return Some(r);
+        }
+    }
+    None
+}
+
+/// The first member whose converse is none.
+fn first_without_converse<C: Compose>(class: &Class, c: &C) -> Option<u64>
+    requires { AreSetsOf (C.algebra c.now) class.now }
+    ensures { MatchOption result
+        (EachMember class.now (HasConverse (C.algebra c.now) class.now))
+        (IsFirstMember class.now (HasConverse (C.algebra c.now) class.now)) }
+{
+    for a in class.members() {
+        if !class.has(c.converse(Rel::of(*a))) {
+            return Some(*a);
+        }
+    }
+    None
+}

@@ -1,0 +1,36 @@
+//! Classes of relations, which guide a search.
+//!
+//! Closing a network decides it where each of its sets is in a tractable class, such as H8, C8 and Q8 of RCC-8 (Renz
+//! and Nebel 1999) or ORD-Horn of Allen's algebra (Nebel and Bürckert 1995). So a search needs to split a set only into
+//! parts that are members, and not into single base relations. No proof rests on that theorem here: a class is any set
+//! of sets, and a search that splits by it is right whatever the class is.
+//!
+//! ```text
+//! let class = h8(alloc)?;                     // or `load`, of a file of one's own
+//! class.has(rel)
+//! parts(alloc, &class, rel)?                  // members that together make up the set
+//! ```
+#![tactic(auto)]
+
+mod built_in;
+mod class;
+mod closed;
+mod fault;
+mod laws;
+mod loading;
+mod pairs;
+mod partition;
+mod rows;
+mod sorted;
+#[cfg(test)]
+mod tests;
+
+pub use built_in::{c8, h8, none, q8};
+pub use class::Class;
+pub use fault::{COMPOSITION, CONVERSE, ClassFault, MEET};
+pub use laws::{class_file_has_one_answer, laws_of_built_in_classes, laws_of_parts};
+pub use loading::load;
+pub use partition::parts;
+
+/// The most members that a class may have, the empty relation among them.
+pub const MAX_MEMBERS: usize = 1024;
