@@ -1,0 +1,13 @@
+pub mod Worked
+pub mod NoScenarios
+pub mod Pendings
+pub mod Forests
+pub mod Counts
+pub mod Trails
+pub mod Stacks
+pub mod UnionsOfParts
+pub mod Ways
+pub mod Firsts
+pub mod Numbered
+pub mod Exact
+pub mod Decided

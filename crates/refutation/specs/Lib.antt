@@ -1,0 +1,9 @@
+pub mod Tree
+pub mod Steps
+pub mod Refutes
+pub mod TreeFault
+pub mod Ends
+pub mod Networks
+pub mod Ways
+pub mod Stacks
+pub mod Laws

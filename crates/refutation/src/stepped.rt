@@ -1,0 +1,279 @@
+//! Networks above one another, each worked from the one under it.
+//!
+//! The top alone is stored. What each network replaced is kept, so that the one under it is had back by undoing that,
+//! the last first. A step costs one composition. A network that is closed is closed from scratch.
+
+ghost use Rattle.std.specs.Prelude.{◌≡◌, ◌<◌, All, OnOk, length, slice_set};
+ghost use Rattle.network_words.specs.Edge.{edge_count, IsProperTriple};
+ghost use Rattle.network_words.specs.Network.{IsNetwork};
+ghost use Rattle.refutation.specs.Tree.{AreSteps};
+ghost use Rattle.refutation.specs.Steps.{node_steps};
+ghost use Rattle.refutation.specs.Refutes.{after_step, after_steps, IsWorked};
+ghost use Rattle.refutation.specs.Networks.{restored, KeepsTrail};
+
+use crate::tree::{Step, Steps};
+use calculus_table::{Compose, Memory, Rel, lawful};
+use closure_seq::close;
+use compose_fast::{Fast, first_zero};
+use network_words::{Net, edge_between, oriented};
+use std::alloc::Global;
+use std::marker::Model;
+
+/// A set that was replaced.
+#[derive(Clone, Copy, Debug, PartialEq, Eq)]
+pub(crate) struct Replaced {
+    /// The number of the edge.
+    pub edge: u32,
+    /// The set that it had before.
+    pub old: Rel,
+}
+
+/// Replaces the set of an edge.
+fn replace(net: &mut Net, trail: &mut Vec<Replaced>, edge: u32, rel: Rel) -> Result<(), Memory>
+    requires below { edge < edge_count net.old.nodes }
+    ensures words { OnOk result
+        (net.new ≡ record net.old { words = slice_set net.old.words edge rel }) }
+    ensures trail { OnOk result
+        (KeepsTrail net.old.nodes net.old.words trail.old.items net.new.words trail.new.items) }
+    ensures nodes { net.new.nodes ≡ net.old.nodes }
+{
+    let old = net.word(edge);
+    let Ok(()) = trail.push(Replaced { edge, old }) else {
+        return Err(Memory);
+    };
+    net.set(edge, rel);
+    Ok(())
+}
+
+/// Takes a step.
+fn take_step(net: &mut Net, trail: &mut Vec<Replaced>, c: &Fast, step: &Step) -> Result<(), Memory>
+    requires network { IsNetwork c.now net.old.nodes net.old.words }
+    requires proper { IsProperTriple net.old.nodes step.now.i step.now.j step.now.k }
+    ensures words { OnOk result (net.new ≡ record net.old {
+      words = after_step c.now net.old.nodes net.old.words step.now;
+    }) }
+    ensures trail { OnOk result
+        (KeepsTrail net.old.nodes net.old.words trail.old.items net.new.words trail.new.items) }
+    ensures nodes { net.new.nodes ≡ net.old.nodes }
+{
+    lawful(c);
+    let first = net.get(c, step.i, step.j);
+    let second = net.get(c, step.j, step.k);
+    let composed = oriented(c, step.i, step.k, c.compose(first, second));
+    let edge = edge_between(net.nodes(), step.i, step.k);
+    let narrowed = net.word(edge).meet(composed);
+    replace(net, trail, edge, narrowed)
+}
+
+/// Takes the steps, the first one first.
+fn take_steps(
+    net: &mut Net,
+    trail: &mut Vec<Replaced>,
+    c: &Fast,
+    steps: &[Step],
+) -> Result<(), Memory>
+    requires network { IsNetwork c.now net.old.nodes net.old.words }
+    requires proper { All (λ step. IsProperTriple net.old.nodes step.i step.j step.k) steps.now }
+    ensures words { OnOk result (net.new ≡ record net.old {
+      words = after_steps c.now net.old.nodes net.old.words steps.now;
+    }) }
+    ensures trail { OnOk result
+        (KeepsTrail net.old.nodes net.old.words trail.old.items net.new.words trail.new.items) }
+    ensures nodes { net.new.nodes ≡ net.old.nodes }
+{
+    for step in steps {
+        take_step(net, trail, c, step)?;
+    }
+    Ok(())
+}
+
+/// Replaces the sets that differ from those of another network.
+fn replace_all(net: &mut Net, trail: &mut Vec<Replaced>, other: &Net) -> Result<(), Memory>
+    requires nodes { other.now.nodes ≡ net.old.nodes }
+    requires sized { length net.old.words ≡ edge_count net.old.nodes }
+    requires lengths { length other.now.words ≡ length net.old.words }
+    ensures words { OnOk result (net.new ≡ record net.old { words = other.now.words }) }
+    ensures trail { OnOk result
+        (KeepsTrail net.old.nodes net.old.words trail.old.items net.new.words trail.new.items) }
+    ensures nodes { net.new.nodes ≡ net.old.nodes }
+{
+    let sets = other.words();
+    for edge in 0..net.edges() {
+        let set = sets[edge as usize];
+        if set != net.words()[edge as usize] {
+            replace(net, trail, edge, Rel::of(set))?;
+        }
+    }
+    Ok(())
+}
+
+/// Works the network: closes it, or takes the steps.
+fn work(
+    alloc: Global,
+    net: &mut Net,
+    trail: &mut Vec<Replaced>,
+    c: &Fast,
+    steps: &Steps,
+) -> Result<(), Memory>
+    requires network { IsNetwork c.now net.old.nodes net.old.words }
+    requires steps { AreSteps net.old.nodes (node_steps steps.now) }
+    ensures worked { OnOk result
+        (IsWorked c.now net.old.nodes (node_steps steps.now) net.old.words net.new.words) }
+    ensures rest { OnOk result (net.new ≡ record net.old { words = net.new.words }) }
+    ensures trail { OnOk result
+        (KeepsTrail net.old.nodes net.old.words trail.old.items net.new.words trail.new.items) }
+    ensures nodes { net.new.nodes ≡ net.old.nodes }
+{
+    match steps {
+        Steps::List(steps) => take_steps(net, trail, c, steps),
+        Steps::Sweep => {
+            let mut closed = net.copy()?;
+            close(alloc, &mut closed, c)?;
+            replace_all(net, trail, &closed)
+        }
+    }
+}
+
+/// Undoes what was replaced, the last first.
+fn undo(net: &mut Net, trail: Vec<Replaced>)
+    requires { All (λ r. r.edge < edge_count net.old.nodes) trail.items }
+    ensures { net.new ≡ record net.old { words = restored net.old.words trail.items } }
+{
+    let mut trail = trail;
+    while let Some(last) = trail.pop() {
+        net.set(last.edge, last.old);
+    }
+}
+
+/// Networks above one another, each worked from the one under it.
+#[derive(Debug, Drop)]
+pub(crate) struct Stepped {
+    calculus: Fast,
+    net: Net,
+    trails: Vec<Vec<Replaced>>,
+}
+
+impl Model for Stepped {
+    ghost use Rattle.std.specs.Prelude.{◌<◌, false, map, reverse, All};
+    ghost use Rattle.network_words.specs.Edge.{edge_count};
+    ghost use Rattle.refutation.specs.Networks.{NetworkStack, networks_under};
+
+    ghost Value = { NetworkStack };
+
+    ghost view = { λ a. record {
+      algebra = a.calculus;
+      nodes = a.net.nodes;
+      is_closed = false;
+      top = a.net.words;
+      under = networks_under a.net.words (map (λ v. v.items) (reverse a.trails.items));
+    } };
+
+    ghost invariant = { λ a.
+        All (λ v. All (λ r. r.edge < edge_count a.net.nodes) v.items) a.trails.items };
+}
+
+impl Stepped {
+    ghost use Rattle.std.specs.Prelude.{◌≡◌, ◌<◌, ◌↔◌, ◌∷◌, List, IfOk, OnOk, IsTrue, Contains, slice_index, length};
+    ghost use Rattle.std.specs.Prelude.{false};
+    ghost use Rattle.network_words.specs.Edge.{edge_count};
+    ghost use Rattle.network_words.specs.Network.{IsNetwork};
+    ghost use Rattle.refutation.specs.Tree.{AreSteps};
+    ghost use Rattle.refutation.specs.Steps.{node_steps};
+    ghost use Rattle.refutation.specs.Refutes.{IsWorked, met_at};
+    ghost use Rattle.refutation.specs.Networks.{NetworkStack, IsStackOf};
+
+    /// The one network that is worked from a given one.
+    pub(crate) fn new<C: Compose>(
+        alloc: Global,
+        net: &Net,
+        c: &C,
+        steps: &Steps,
+    ) -> Result<Stepped, Memory>
+        requires network { IsNetwork (C.algebra c.now) net.now.nodes net.now.words }
+        requires steps { AreSteps net.now.nodes (node_steps steps.now) }
+        ensures stack { IfOk result
+            (IsStackOf (C.algebra c.now) net.now.nodes net.now.words (node_steps steps.now)) }
+        ensures closed { IfOk result (λ stack. stack.is_closed ≡ false) }
+    {
+        let calculus = Fast::of(alloc, c)?;
+        let mut net = net.copy()?;
+        let mut trail = Vec::new(alloc);
+        work(alloc, &mut net, &mut trail, &calculus, steps)?;
+        Ok(Stepped {
+            calculus,
+            net,
+            trails: Vec::new(alloc),
+        })
+    }
+
+    /// The set of an edge of the top.
+    pub(crate) fn word(&self, edge: u32) -> Rel
+        requires { edge < edge_count self.now.nodes }
+        ensures { result ≡ slice_index self.now.top edge }
+    {
+        self.net.word(edge)
+    }
+
+    /// Whether the set that was replaced last is empty now.
+    fn is_last_empty(&self) -> bool
+        ensures { IsTrue result → Contains self.now.top 0 }
+    {
+        let Some(trail) = self.trails.last() else {
+            return false;
+        };
+        let Some(last) = trail.last() else {
+            return false;
+        };
+        self.net.words()[last.edge as usize] == 0
+    }
+
+    /// Whether the top has an empty set. The one that was replaced last is looked at first, since steps that show that
+    /// there is an empty set end with it.
+    pub(crate) fn is_empty(&self) -> bool
+        ensures { IsTrue result ↔ Contains self.now.top 0 }
+    {
+        self.is_last_empty() || first_zero(self.net.words()).is_some()
+    }
+
+    /// Pushes a network: the top with the set of an edge intersected with a part, worked.
+    pub(crate) fn enter(
+        &mut self,
+        alloc: Global,
+        edge: u32,
+        part: Rel,
+        steps: &Steps,
+    ) -> Result<(), Memory>
+        requires below { edge < edge_count self.old.nodes }
+        requires network { IsNetwork self.old.algebra self.old.nodes self.old.top }
+        requires steps { AreSteps self.old.nodes (node_steps steps.now) }
+        ensures worked { OnOk result
+            (IsWorked self.old.algebra self.old.nodes (node_steps steps.now)
+            (met_at self.old.top edge part) self.new.top) }
+        ensures stack { OnOk result (self.new ≡ record self.old {
+          top = self.new.top;
+          under = self.old.top ∷ self.old.under;
+        }) }
+    {
+        let mut trail = Vec::new(alloc);
+        let met = self.net.word(edge).meet(part);
+        replace(&mut self.net, &mut trail, edge, met)?;
+        work(alloc, &mut self.net, &mut trail, &self.calculus, steps)?;
+        let Ok(()) = self.trails.push(trail) else {
+            return Err(Memory);
+        };
+        Ok(())
+    }
+
+    /// Pops the top.
+    pub(crate) fn leave(&mut self)
+        requires { 0 < length self.old.under }
+        ensures { self.old ≡ record self.new {
+          top = self.old.top;
+          under = self.new.top ∷ self.new.under;
+        } }
+    {
+        if let Some(trail) = self.trails.pop() {
+            undo(&mut self.net, trail);
+        }
+    }
+}

@@ -1,0 +1,330 @@
+//! Trees over Ramsey's calculus of two colours: whoever colours the edges of six nodes has a triangle of one colour.
+ghost use Rattle.std.specs.Prelude.{◌≡◌, ◌<◌, ◌^◌, All, IsTrue, IfOk, length};
+ghost use Rattle.network_words.specs.Network.{IsNetwork};
+ghost use Rattle.refutation.specs.Tree.{AreFewSteps};
+
+use super::*;
+use calculus_table::{Calculus, Compose, Rel, TableFault};
+use network_words::Net;
+use std::alloc::Global;
+use std::process::Abort;
+use std::test::Fail;
+
+/// The compositions of the identity and the two colours: no triangle has one colour alone.
+const RAMSEY: [u64; 9] = [1, 2, 4, 2, 5, 6, 4, 6, 3];
+
+const A: u64 = 2;
+
+const B: u64 = 4;
+
+fn owned(alloc: Global, name: &str) -> Result<String, TableFault> {
+    String::from_str(alloc, name).map_err(|_| TableFault::Memory)
+}
+
+fn three_names(alloc: Global) -> Result<Vec<String>, TableFault>
+    ensures { IfOk result (λ owned. length owned.items ≡ 3) }
+{
+    let owned = [owned(alloc, "id")?, owned(alloc, "a")?, owned(alloc, "b")?];
+    Vec::from_array(alloc, owned).map_err(|_| TableFault::Memory)
+}
+
+fn sets_of(alloc: Global, words: &[u64]) -> Result<Vec<Rel>, TableFault>
+    ensures { IfOk result (λ sets. sets.items ≡ words.now) }
+{
+    words
+        .iter()
+        .map(|word| Rel::of(*word))
+        .collect(alloc)
+        .map_err(|_| TableFault::Memory)
+}
+
+fn ramsey(alloc: Global) -> Result<Calculus, TableFault> {
+    let names = three_names(alloc)?;
+    let table = sets_of(alloc, &RAMSEY)?;
+    Calculus::new(alloc, names, 0, &[0, 1, 2], &table)
+}
+
+/// A node: its kind, the edge's nodes, the parts, the children, and the steps, where it has a list.
+type Row<'a> = (
+    Kind,
+    (u32, u32),
+    &'a [u64],
+    &'a [u32],
+    Option<&'a [(u32, u32, u32)]>,
+);
+
+fn steps_of(alloc: Global, steps: &[(u32, u32, u32)]) -> Result<Steps, Fail> {
+    let mut list = Vec::new(alloc);
+    for (i, j, k) in steps {
+        list.push(Step {
+            i: *i,
+            j: *j,
+            k: *k,
+        })?;
+    }
+    Ok(Steps::List(list))
+}
+
+fn node_of(alloc: Global, row: &Row) -> Result<Node, Fail> {
+    let (kind, (i, j), parts, children, steps) = *row;
+    Ok(Node {
+        kind,
+        i,
+        j,
+        parts: sets_of(alloc, parts)?,
+        children: Vec::from_slice(alloc, children)?,
+        steps: match steps {
+            Some(steps) => steps_of(alloc, steps)?,
+            None => Steps::Sweep,
+        },
+    })
+}
+
+fn tree_of(alloc: Global, rows: &[Row]) -> Result<Tree, Fail> {
+    let mut nodes = Vec::new(alloc);
+    for row in rows {
+        nodes.push(node_of(alloc, row)?)?;
+    }
+    Ok(Tree { nodes })
+}
+
+fn is_network<C: Compose>(net: &Net, c: &C) -> bool
+    ensures { IsTrue result → IsNetwork (C.algebra c.now) net.now.nodes net.now.words }
+{
+    let _nodes = net.nodes();
+    let full = c.full();
+    net.words().iter().all(|word| Rel::of(*word).within(full))
+}
+
+fn has_few_steps(node: &Node) -> bool
+    ensures { IsTrue result → AreFewSteps node.now.steps }
+{
+    match &node.steps {
+        Steps::Sweep => true,
+        Steps::List(steps) => steps.len() <= u32::MAX as usize,
+    }
+}
+
+fn is_small(tree: &Tree) -> bool
+    ensures few { IsTrue result → length tree.now < 2 ^ 32 }
+    ensures steps { IsTrue result → All (λ node. AreFewSteps node.steps) tree.now }
+{
+    tree.nodes.len() <= u32::MAX as usize && tree.nodes.iter().all(|node| has_few_steps(node))
+}
+
+/// What the check says of the tree, and how many splits it has.
+fn checked(
+    rt: &impl Abort,
+    alloc: Global,
+    words: &[u64],
+    nodes: u32,
+    rows: &[Row],
+) -> Result<(Result<(), TreeFault>, u32), Fail> {
+    let c = ramsey(alloc)?;
+    let mut net = Net::new(alloc, nodes, c.full())?;
+    for edge in 0..net.edges() {
+        assert!(rt; edge < net.edges() && (edge as usize) < words.len());
+        net.set(edge, Rel::of(words[edge as usize]));
+    }
+    let tree = tree_of(alloc, rows)?;
+    assert!(rt; is_network(&net, &c) && is_small(&tree));
+    Ok((check(alloc, &net, &c, &tree), tree.splits()))
+}
+
+const NONE: (u32, u32) = (0, 0);
+
+/// Six nodes, of which the first has edges of known colours to four others.
+const SIX: [u64; 15] = [A, B, A, B, 6, 6, 6, 6, 6, 6, 6, 6, 6, 6, 6];
+
+const EMPTY: Row = (Kind::Empty, NONE, &[], &[], None);
+
+const OPEN: Row = (Kind::Open, NONE, &[], &[], None);
+
+const FOUND: Row = (Kind::Found, NONE, &[], &[], None);
+
+const LATER: Row = (Kind::Later, NONE, &[], &[], None);
+
+const SPLIT: Row = (Kind::Split, (0, 5), &[A, B], &[1, 2], None);
+
+const LISTED: Row = (
+    Kind::Split,
+    (0, 5),
+    &[A, B],
+    &[1, 2],
+    Some(&[(1, 0, 3), (2, 0, 4)]),
+);
+
+const FIRST: Row = (
+    Kind::Empty,
+    NONE,
+    &[],
+    &[],
+    Some(&[(1, 0, 5), (3, 0, 5), (3, 1, 5)]),
+);
+
+const SECOND: Row = (
+    Kind::Empty,
+    NONE,
+    &[],
+    &[],
+    Some(&[(2, 0, 5), (4, 0, 5), (4, 2, 5)]),
+);
+
+#[test]
+fn tells_trees_that_refute_by_their_first_fault(rt: HostRuntime) -> Result<(), Fail> {
+    let table: [(&[Row], Result<(), TreeFault>); 24] = [
+        // part a makes 1, 3 and 5 a triangle of b, part b makes 2, 4 and 5 a triangle of a
+        (&[SPLIT, EMPTY, EMPTY], Ok(())),
+        (&[LISTED, FIRST, SECOND], Ok(())),
+        (&[LISTED, FIRST, EMPTY], Ok(())),
+        (
+            &[SPLIT, EMPTY, (Kind::Empty, (7, 3), &[9], &[5, 5], None)],
+            Ok(()),
+        ),
+        // a leaf with no empty set: nothing is narrowed, or too little
+        (&[EMPTY], Err(TreeFault::NotEmpty { node: 0 })),
+        (
+            &[
+                LISTED,
+                (Kind::Empty, NONE, &[], &[], Some(&[(1, 0, 5), (3, 0, 5)])),
+                SECOND,
+            ],
+            Err(TreeFault::NotEmpty { node: 1 }),
+        ),
+        (
+            &[LISTED, FIRST, (Kind::Empty, NONE, &[], &[], Some(&[]))],
+            Err(TreeFault::NotEmpty { node: 2 }),
+        ),
+        // parts that don't have each base relation
+        (
+            &[(Kind::Split, (0, 5), &[A], &[1], None), EMPTY],
+            Err(TreeFault::Uncovered { node: 0 }),
+        ),
+        // a leaf of another kind, which comes after the faults of nodes before it
+        (&[SPLIT, EMPTY, OPEN], Err(TreeFault::BadTree { node: 2 })),
+        (&[SPLIT, OPEN, OPEN], Err(TreeFault::BadTree { node: 1 })),
+        (
+            &[(Kind::Split, (0, 5), &[A], &[1], None), OPEN],
+            Err(TreeFault::Uncovered { node: 0 }),
+        ),
+        // no preorder list
+        (&[], Err(TreeFault::BadTree { node: 0 })),
+        (&[EMPTY, EMPTY], Err(TreeFault::BadTree { node: 1 })),
+        (
+            &[(Kind::Split, (0, 5), &[A, B], &[2, 1], None), EMPTY, EMPTY],
+            Err(TreeFault::BadTree { node: 0 }),
+        ),
+        (&[SPLIT, EMPTY], Err(TreeFault::BadTree { node: 0 })),
+        (
+            &[
+                (Kind::Split, (0, 5), &[6], &[1], None),
+                (Kind::Split, (0, 5), &[A, B], &[2, 3], None),
+                EMPTY,
+            ],
+            Err(TreeFault::BadTree { node: 1 }),
+        ),
+        // no split of an edge into as many parts as children
+        (
+            &[(Kind::Split, (5, 0), &[A, B], &[1, 2], None), EMPTY, EMPTY],
+            Err(TreeFault::BadTree { node: 0 }),
+        ),
+        (
+            &[(Kind::Split, (0, 6), &[A, B], &[1, 2], None), EMPTY, EMPTY],
+            Err(TreeFault::BadTree { node: 0 }),
+        ),
+        (
+            &[(Kind::Split, (0, 5), &[A], &[1, 2], None), EMPTY, EMPTY],
+            Err(TreeFault::BadTree { node: 0 }),
+        ),
+        (
+            &[(Kind::Split, (0, 5), &[], &[], None)],
+            Err(TreeFault::BadTree { node: 0 }),
+        ),
+        // a step that isn't of three different nodes
+        (
+            &[
+                LISTED,
+                (
+                    Kind::Empty,
+                    NONE,
+                    &[],
+                    &[],
+                    Some(&[(1, 0, 5), (3, 0, 5), (3, 1, 6)]),
+                ),
+                SECOND,
+            ],
+            Err(TreeFault::BadStep { node: 1, step: 2 }),
+        ),
+        (
+            &[
+                LISTED,
+                (
+                    Kind::Empty,
+                    NONE,
+                    &[],
+                    &[],
+                    Some(&[(1, 0, 5), (3, 0, 5), (3, 3, 5)]),
+                ),
+                SECOND,
+            ],
+            Err(TreeFault::BadStep { node: 1, step: 2 }),
+        ),
+        // forms come before networks, and within forms the first node
+        (
+            &[(Kind::Split, (0, 5), &[A], &[1], None), EMPTY, EMPTY],
+            Err(TreeFault::BadTree { node: 2 }),
+        ),
+        (
+            &[
+                (Kind::Split, (0, 5), &[A, B], &[1, 2], Some(&[(1, 1, 2)])),
+                EMPTY,
+            ],
+            Err(TreeFault::BadTree { node: 0 }),
+        ),
+    ];
+    for (rows, wanted) in table {
+        let (said, _splits) = checked(&rt, rt.alloc(), &SIX, 6, rows)?;
+        assert_eq!(rt; said, wanted, "of {} nodes", rows.len());
+    }
+    Ok(())
+}
+
+#[test]
+fn a_found_leaf_refutes_nothing(rt: HostRuntime) -> Result<(), Fail> {
+    // the search in five nodes, where both colours are open everywhere, up to the pentagon
+    let rows: [Row; 11] = [
+        (Kind::Split, (0, 1), &[A, B], &[1, 10], None),
+        (Kind::Split, (0, 2), &[A, B], &[2, 9], None),
+        (Kind::Split, (0, 3), &[A, B], &[3, 4], None),
+        EMPTY,
+        (Kind::Split, (0, 4), &[A, B], &[5, 6], None),
+        EMPTY,
+        (Kind::Split, (1, 3), &[A, B], &[7, 8], None),
+        FOUND,
+        LATER,
+        LATER,
+        LATER,
+    ];
+    let (said, splits) = checked(&rt, rt.alloc(), &[6; 10], 5, &rows)?;
+    assert_eq!(rt; said, Err(TreeFault::BadTree { node: 7 }));
+    assert_eq!(rt; splits, 5);
+    Ok(())
+}
+
+#[test]
+fn an_empty_set_needs_no_split(rt: HostRuntime) -> Result<(), Fail> {
+    // the words, the nodes, and what the check says of a leaf
+    let table: [(&[u64], u32, Result<(), TreeFault>); 3] = [
+        (&[0], 2, Ok(())),
+        (&[A], 2, Err(TreeFault::NotEmpty { node: 0 })),
+        (&[], 1, Err(TreeFault::NotEmpty { node: 0 })),
+    ];
+    for (words, nodes, wanted) in table {
+        for row in [EMPTY, (Kind::Empty, NONE, &[], &[], Some(&[]))] {
+            let (said, splits) = checked(&rt, rt.alloc(), words, nodes, &[row])?;
+            assert_eq!(rt; said, wanted, "of {nodes} nodes");
+            assert_eq!(rt; splits, 0);
+        }
+    }
+    Ok(())
+}
