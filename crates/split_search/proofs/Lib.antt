@@ -1,0 +1,12 @@
+pub mod Splits
+pub mod Networks
+pub mod Refuted
+pub mod FoundScenarios
+pub mod OneVerdict
+pub mod Products
+pub mod SomeVerdict
+pub mod FirstEdges
+pub mod Ways
+pub mod Transitions
+pub mod Leaving
+pub mod Stopping
