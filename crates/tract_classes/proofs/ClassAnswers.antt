@@ -20,7 +20,7 @@ use Rattle.line_files.specs.declared.lines.TextEnd.TheVariants.{Whole, BadLine}
 use Rattle.line_files.proofs.Steps.{MatchResult-then, MatchResult-ok_or, MatchResult-cond}
 use Rattle.named_sets.specs.Named.{set_at}
 use Rattle.named_sets.proofs.ReadSets.{set_at-within}
-use Rattle.tract_classes.specs.Class.{EachMember, EachPair, HasBase, HasConverse, HasMeet, HasComposition, IsSetBelow, IsClassBelow, AreSetsOf, IsClosedClass}
+use Rattle.tract_classes.specs.Class.{IsClass, EachMember, EachPair, HasBase, HasConverse, HasMeet, HasComposition, IsSetBelow, IsClassBelow, AreSetsOf, IsClosedClass}
 use Rattle.tract_classes.specs.ClassFile.{set_line, with_member, or_too_many, with_line, class_before, class_at_end, end_fault, sets_from, class_of}
 use Rattle.tract_classes.specs.ClassFault.{IsFirstMember, IsFirstPair, IsNotClosedAt, IsFaultOf, IsClassFaultOf}
 use Rattle.tract_classes.specs.Laws.{ClassFaultIsOne, ClosedClassHasNoFault, IsTextOfClass, TextHasFault, ClassFileHasAnswer}
@@ -310,3 +310,11 @@ pub class_file_answer : ClassFileHasAnswer
 class_file_answer c bytes lawful =
     let text : FileText = file_text bytes in
     answered c bytes (class_of c.names bytes) lawful refl (sets_from-below c.names text.end text.lines (0 ∷ []) (empty_class c.names))
+
+-- the sets of a text make a class
+pub class_of_text : (names : List (List ℕ)) (bytes class : List ℕ) → class_of names bytes ≡ Ok class → IsClass class
+class_of_text names bytes class e =
+    let text : FileText = file_text bytes in
+    let below = subst (λ t. MatchResult t (IsClassBelow (length names)) IsOfText) e
+    (sets_from-below names text.end text.lines (0 ∷ []) (empty_class names)) in
+    below.is_class

@@ -2,7 +2,7 @@
 //! intersection and composition.
 //!
 //! Each test goes through the members in ascending order, and stops at the first that fails. For `n` members the last
-//! takes `n * n` compositions, a million for the greatest class.
+//! takes `n * n` compositions, a million for the greatest class, so they are best looked up.
 ghost use Rattle.std.specs.Prelude.{◌≡◌, ℕ, ◌<◌, ◌≤◌, MatchResult, MatchOption, Contains};
 ghost use Rattle.calculus_table.specs.Calculus.{EachBase, IsFirstBase};
 ghost use Rattle.tract_classes.specs.Class.{EachMember, IsClosedClass, HasBase, HasConverse, AreSetsOf};
