@@ -1,2 +1,2 @@
-pub mod CloseWords
+pub mod FoundWords
 pub mod CommandWords

@@ -7,12 +7,16 @@
 #![tactic(auto)]
 
 mod close;
+mod command;
 mod reading;
+mod solve;
 #[cfg(test)]
 mod tests;
+mod values;
 
 pub use close::Close;
 pub use reading::{Request, read};
+pub use solve::Solve;
 
 /// The least number of workers that a command takes.
 pub const MIN_WORKERS: u32 = 1;
@@ -22,3 +26,9 @@ pub const MAX_WORKERS: u32 = 64;
 
 /// The number of workers where the words name none.
 pub const USUAL_WORKERS: u32 = 4;
+
+/// The greatest budget of splits that a command takes.
+pub const MAX_BUDGET: u32 = 10_000;
+
+/// The budget of splits where the words name none.
+pub const USUAL_BUDGET: u32 = 1_000;

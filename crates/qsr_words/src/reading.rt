@@ -2,11 +2,12 @@
 ghost use Rattle.std.specs.Prelude.{◌≡◌, IfOk, map};
 ghost use Rattle.std.specs.List.{list_any};
 ghost use Rattle.std.specs.String.{string_bytes};
-ghost use Rattle.qsr_words.specs.Asked.{asked_by, is_strange};
-ghost use Rattle.qsr_words.specs.Requests.{asked_of, HasWorkers};
+ghost use Rattle.qsr_words.specs.Asked.{asked_by, command_by, is_strange};
+ghost use Rattle.qsr_words.specs.Requests.{asked_of, IsWithinLimits};
 
-use crate::close;
 use crate::close::Close;
+use crate::solve::Solve;
+use crate::{close, solve};
 use calculus_table::Memory;
 use std::alloc::Global;
 
@@ -15,6 +16,8 @@ use std::alloc::Global;
 pub enum Request {
     /// To close a network.
     Close(Close),
+    /// To search for a scenario of a network.
+    Solve(Solve),
     /// Nothing that there is: the usage line is the answer.
     Usage,
 }
@@ -22,18 +25,36 @@ pub enum Request {
 /// What the words ask for. They are the arguments without the program's name.
 pub fn read(alloc: Global, words: &[String]) -> Result<Request, Memory>
     ensures asked { IfOk result (λ request. asked_of request ≡ asked_by (map string_bytes words.now)) }
-    ensures workers { IfOk result HasWorkers }
+    ensures limits { IfOk result IsWithinLimits }
 {
     if has_strange(words) {
         return Ok(Request::Usage);
     }
     match words {
-        [command, ..] if command.as_str() == "close" => match close::read(alloc, words)? {
+        [name, ..] => request_by(alloc, name.as_str(), words),
+        [] => Ok(Request::Usage),
+    }
+}
+
+/// What words ask for of which the first is this name.
+fn request_by(alloc: Global, name: &str, words: &[String]) -> Result<Request, Memory>
+    ensures asked { IfOk result (λ request.
+        asked_of request ≡ command_by name.now (map string_bytes words.now)) }
+    ensures limits { IfOk result IsWithinLimits }
+{
+    if name == "close" {
+        return match close::read(alloc, words)? {
             Some(close) => Ok(Request::Close(close)),
             None => Ok(Request::Usage),
-        },
-        _ => Ok(Request::Usage),
+        };
     }
+    if name == "solve" {
+        return match solve::read(alloc, words)? {
+            Some(solve) => Ok(Request::Solve(solve)),
+            None => Ok(Request::Usage),
+        };
+    }
+    Ok(Request::Usage)
 }
 
 /// Whether no command takes one of the words.

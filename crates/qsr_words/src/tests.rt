@@ -1,5 +1,16 @@
 use crate::{Request, read};
+use std::alloc::Global;
 use std::test::Fail;
+
+/// The words of a command: its name and the others.
+fn owned(alloc: Global, name: &str, rest: &[&str]) -> Result<Vec<String>, Fail> {
+    let mut words = Vec::new(alloc);
+    words.push(String::from_str(alloc, name)?)?;
+    for word in rest {
+        words.push(String::from_str(alloc, word)?)?;
+    }
+    Ok(words)
+}
 
 #[test]
 fn words_of_close_are_taken(rt: HostRuntime) -> Result<(), Fail> {
@@ -26,17 +37,66 @@ fn words_of_close_are_taken(rt: HostRuntime) -> Result<(), Fail> {
         (&["-w", "rcc8"], "", 0),
     ];
     for (rest, calculus, workers) in rows.iter() {
-        let mut words = Vec::new(alloc);
-        words.push(String::from_str(alloc, "close")?)?;
-        for word in *rest {
-            words.push(String::from_str(alloc, word)?)?;
-        }
-        match read(alloc, &words).map_err(|_| "memory")? {
+        match read(alloc, &owned(alloc, "close", rest)?).map_err(|_| "memory")? {
             Request::Close(close) => {
                 assert_eq!(rt; close.calculus.as_str(), *calculus, "{rest:?}");
                 assert_eq!(rt; close.workers, *workers, "{rest:?}");
             }
-            Request::Usage => assert_eq!(rt; "", *calculus, "{rest:?}"),
+            _ => assert_eq!(rt; "", *calculus, "{rest:?}"),
+        }
+    }
+    Ok(())
+}
+
+#[test]
+fn words_of_solve_are_taken(rt: HostRuntime) -> Result<(), Fail> {
+    let alloc = rt.alloc();
+    // the words after `solve`, the calculus, the class, the budget, and the number of workers; no calculus where the
+    // words aren't taken
+    let rows: [(&[&str], &str, &str, u32, u32); 14] = [
+        (&["rcc8"], "rcc8", "h8", 1000, 4),
+        (&["allen"], "allen", "none", 1000, 4),
+        (
+            &["towns.table", "--class", "own.class"],
+            "towns.table",
+            "own.class",
+            1000,
+            4,
+        ),
+        (&["--class=q8", "rcc8", "--budget=0"], "rcc8", "q8", 0, 4),
+        (
+            &[
+                "rcc8",
+                "--class",
+                "none",
+                "--budget",
+                "10000",
+                "--workers=1",
+            ],
+            "rcc8",
+            "none",
+            10_000,
+            1,
+        ),
+        (&["rcc8", "--budget", "10001"], "", "", 0, 0),
+        (&["rcc8", "--budget", "5", "--budget", "6"], "", "", 0, 0),
+        (&["allen", "--class", "h8"], "", "", 0, 0),
+        (&["point", "--class=c8"], "", "", 0, 0),
+        (&["towns.table", "--class=q8"], "", "", 0, 0),
+        (&["rcc8", "--class="], "", "", 0, 0),
+        (&["rcc8", "--budget="], "", "", 0, 0),
+        (&["rcc8", "--cert"], "", "", 0, 0),
+        (&[], "", "", 0, 0),
+    ];
+    for (rest, calculus, class, budget, workers) in rows.iter() {
+        match read(alloc, &owned(alloc, "solve", rest)?).map_err(|_| "memory")? {
+            Request::Solve(solve) => {
+                assert_eq!(rt; solve.calculus.as_str(), *calculus, "{rest:?}");
+                assert_eq!(rt; solve.class.as_str(), *class, "{rest:?}");
+                assert_eq!(rt; solve.budget, *budget, "{rest:?}");
+                assert_eq!(rt; solve.workers, *workers, "{rest:?}");
+            }
+            _ => assert_eq!(rt; "", *calculus, "{rest:?}"),
         }
     }
     Ok(())
