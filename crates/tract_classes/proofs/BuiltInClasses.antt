@@ -7,8 +7,10 @@ use Rattle.std.proofs.lemmas.Bool.{agree_below_at, cases_Bool, cond-true, cond-f
 use Rattle.std.proofs.lemmas.Nat.{pow_below}
 use Rattle.std.proofs.lemmas.List.Kept.{IsStrictlyIncreasing-filter}
 use Rattle.std.proofs.lemmas.List.FromFn.{length-range_with_len, get_or-range_with_len, length-map-range_with_len, get_or-map-range_with_len}
-use Rattle.tract_classes.specs.Class.{IsClass}
-use Rattle.tract_classes.specs.BuiltIn.{is_in, members, singles, HaveBases, SinglesHaveBases}
+use Rattle.calculus_table.specs.Calculus.{EachBase}
+use Rattle.calculus_builtin.specs.Rcc8.{rcc8_calculus}
+use Rattle.tract_classes.specs.Class.{IsClass, HasBase}
+use Rattle.tract_classes.specs.BuiltIn.{is_in, members, h8, c8, q8, singles, HaveBases, SinglesHaveBases}
 use Rattle.tract_classes.specs.declared.built_in.Rcc8Class.{Rcc8Class}
 use Rattle.tract_classes.specs.declared.built_in.Rcc8Class.TheVariants.{H8, C8, Q8}
 use Rattle.tract_classes.proofs.Ascending.{Contains-at, Contains-cons, Contains-cons_cases, increasing_cons}
@@ -62,8 +64,20 @@ base_in H8 r h = agree_below_at (λ r. is_in H8 (2 ^ r)) (λ _. true) 8 r refl h
 base_in C8 r h = agree_below_at (λ r. is_in C8 (2 ^ r)) (λ _. true) 8 r refl h
 base_in Q8 r h = agree_below_at (λ r. is_in Q8 (2 ^ r)) (λ _. true) 8 r refl h
 
+rcc8_bases : (which : Rcc8Class) → EachBase rcc8_calculus.algebra (HasBase (members which))
+rcc8_bases which r h = Contains-filter (is_in which) (range_with_len 0 256) (2 ^ r) (Contains-range 256 (2 ^ r) (pow_below r 8 h)) (base_in which r h)
+
 pub have_bases : HaveBases
-have_bases which r h = Contains-filter (is_in which) (range_with_len 0 256) (2 ^ r) (Contains-range 256 (2 ^ r) (pow_below r 8 h)) (base_in which r h)
+have_bases = record { h8_bases = rcc8_bases H8; c8_bases = rcc8_bases C8; q8_bases = rcc8_bases Q8 }
+
+pub h8-class : IsClass h8
+h8-class = members-class H8
+
+pub c8-class : IsClass c8
+c8-class = members-class C8
+
+pub q8-class : IsClass q8
+q8-class = members-class Q8
 
 -- ---- single base relations
 

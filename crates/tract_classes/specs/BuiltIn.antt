@@ -43,6 +43,15 @@ is_in class a = not (is_np8 a) && not (is_left_out class a)
 abbrev pub members : Rcc8Class → List ℕ
 members class = filter (is_in class) (range_with_len 0 256)
 
+abbrev pub h8 : List ℕ
+h8 = members H8
+
+abbrev pub c8 : List ℕ
+c8 = members C8
+
+abbrev pub q8 : List ℕ
+q8 = members Q8
+
 -- the empty relation and the single base relations
 abbrev pub singles : ℕ → List ℕ
 singles n = 0 ∷ map (λ r. 2 ^ r) (range_with_len 0 n)
@@ -50,13 +59,15 @@ singles n = 0 ∷ map (λ r. 2 ^ r) (range_with_len 0 n)
 -- how many members the classes have
 pub record HaveSizes : Type 0 where
   pub np8 : length (filter is_np8 (range_with_len 0 256)) ≡ 76
-  pub h8 : length (members H8) ≡ 148
-  pub c8 : length (members C8) ≡ 158
-  pub q8 : length (members Q8) ≡ 160
+  pub h8_members : length h8 ≡ 148
+  pub c8_members : length c8 ≡ 158
+  pub q8_members : length q8 ≡ 160
 
 -- each base relation is a member by itself
-abbrev pub HaveBases : Type 0
-HaveBases = (class : Rcc8Class) → EachBase rcc8_calculus.algebra (HasBase (members class))
+pub record HaveBases : Type 0 where
+  pub h8_bases : EachBase rcc8_calculus.algebra (HasBase h8)
+  pub c8_bases : EachBase rcc8_calculus.algebra (HasBase c8)
+  pub q8_bases : EachBase rcc8_calculus.algebra (HasBase q8)
 
 abbrev pub SinglesHaveBases : Type 0
 SinglesHaveBases = (n r : ℕ) → r < n → HasBase (singles n) r

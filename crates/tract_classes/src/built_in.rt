@@ -1,6 +1,6 @@
 //! The classes that are built in: three of RCC-8, by their rules, and the one of single base relations.
 ghost use Rattle.std.specs.Prelude.{◌≡◌, ℕ, ◌≤◌, Bool, IfOk};
-ghost use Rattle.tract_classes.specs.BuiltIn.{meets, is_np8, is_not_h8, is_not_c8, is_not_q8, is_in, members, singles};
+ghost use Rattle.tract_classes.specs.BuiltIn.{meets, is_np8, is_not_h8, is_not_c8, is_not_q8, is_in, members, h8, c8, q8, singles};
 
 use crate::class::Class;
 use calculus_table::Memory;
@@ -50,21 +50,21 @@ impl Rcc8Class {
 
 /// The class of RCC-8 with 148 members.
 pub fn h8(alloc: Global) -> Result<Class, Memory>
-    ensures { IfOk result (λ class. class ≡ members Rcc8Class.H8) }
+    ensures { IfOk result (λ class. class ≡ h8) }
 {
     rcc8_class(alloc, Rcc8Class::H8)
 }
 
 /// The class of RCC-8 with 158 members.
 pub fn c8(alloc: Global) -> Result<Class, Memory>
-    ensures { IfOk result (λ class. class ≡ members Rcc8Class.C8) }
+    ensures { IfOk result (λ class. class ≡ c8) }
 {
     rcc8_class(alloc, Rcc8Class::C8)
 }
 
 /// The class of RCC-8 with 160 members.
 pub fn q8(alloc: Global) -> Result<Class, Memory>
-    ensures { IfOk result (λ class. class ≡ members Rcc8Class.Q8) }
+    ensures { IfOk result (λ class. class ≡ q8) }
 {
     rcc8_class(alloc, Rcc8Class::Q8)
 }
