@@ -1,2 +1,3 @@
 pub mod FoundWords
 pub mod CommandWords
+pub mod ClassesFit

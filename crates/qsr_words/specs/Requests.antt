@@ -30,6 +30,12 @@ pub record IsSearch (asked : SolveAsked) : Type 0 where
   pub budget : asked.budget ≤ MAX_BUDGET
   pub workers : AreWorkers asked.workers
 
+-- the class that guides a search fits its calculus; nothing is asked of other commands
+abbrev pub FitsClass : Option Asked → Type 0
+FitsClass None = ⊤
+FitsClass (Some (close asked)) = ⊤
+FitsClass (Some (solve asked)) = class_fits asked.calculus asked.class ≡ true
+
 -- the request is within the limits of its command
 abbrev pub IsWithinLimits : Request → Type 0
 IsWithinLimits (request.Close c) = AreWorkers c.workers
