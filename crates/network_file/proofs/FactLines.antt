@@ -7,10 +7,9 @@ use Rattle.network_words.specs.Facts.{IsNetworkOfFacts}
 use Rattle.network_words.specs.declared.fact.Fact.{Fact}
 use Rattle.network_words.proofs.NetsOfFacts.{IsNetworkOfFacts-push}
 use Rattle.qsr_lex.specs.Lexemes.{Lexeme}
-use Rattle.qsr_lex.specs.TokenLines.{TokenLine, token_line}
-use Rattle.line_files.specs.FileText.{FileText, file_with}
+use Rattle.qsr_lex.specs.TokenLines.{token_line}
+use Rattle.line_files.specs.FileText.{FileText}
 use Rattle.line_files.specs.Steps.{◌>>=◌}
-use Rattle.line_files.specs.declared.lines.TextEnd.{TextEnd}
 use Rattle.network_file.specs.NetworkFile.{fact_line, fact_lines, facts_at_end, ReadsLine}
 
 pub at_false : (b : Bool) (P Q : Type 0) → b ≡ false → MatchBool b P Q → Q

@@ -1,5 +1,5 @@
 -- The canonical text of a network is read as that network, and a text has one answer.
-use Rattle.std.proofs.Common.{◌≡◌, ◌≢◌, ℕ, ◌+◌, ◌<◌, ◌≤◌, ◌==◌, ◌&&◌, ◌||◌, Bool, true, false, cond, nat_lt, List, [], ◌∷◌, ◌++◌, length, map, refl, sym, ◌∙◌, ap, subst, arith, append_assoc, append-nil, slice_index, Option, Some, None, Result, Ok, Err, option_map, option_and_then, codes, decimal, bytes_eq, inl, inr}
+use Rattle.std.proofs.Common.{◌≡◌, ℕ, ◌+◌, ◌<◌, ◌≤◌, ◌==◌, ◌&&◌, ◌||◌, Bool, true, false, cond, nat_lt, List, [], ◌∷◌, ◌++◌, length, map, refl, sym, ◌∙◌, ap, subst, arith, append_assoc, append-nil, slice_index, Option, Some, None, Result, Ok, Err, option_map, option_and_then, codes, decimal, bytes_eq, inl, inr}
 use Rattle.std.specs.Option.{ok_or}
 use Rattle.std.specs.List.{list_all, AllByRecursion}
 use Rattle.std.proofs.lemmas.Bool.{lt-ltb, eq-eqb, false_from_ne_true}
@@ -19,12 +19,12 @@ use Rattle.qsr_lex.specs.Lexemes.{Lexeme}
 use Rattle.qsr_lex.specs.Names.{is_name}
 use Rattle.qsr_lex.specs.Numbers.{number_of}
 use Rattle.qsr_lex.specs.TokenLines.{TokenLine, token_line}
-use Rattle.qsr_lex.specs.LineTokens.{names_at, is_same_kind, at_end, ends_there, is_end_line}
-use Rattle.qsr_lex.specs.Printed.{lexeme_from, printed, printed_token_lines}
+use Rattle.qsr_lex.specs.LineTokens.{is_same_kind, at_end, ends_there, is_end_line}
+use Rattle.qsr_lex.specs.Printed.{lexeme_from, printed_token_lines}
 use Rattle.qsr_lex.specs.declared.tokens.TokenKind.TheVariants.{Word, Stop}
 use Rattle.qsr_lex.proofs.PrintedNames.{IsPrintedSet-from_tests}
 use Rattle.qsr_lex.proofs.PrintedNumbers.{IsPrintedNumber-below}
-use Rattle.line_files.specs.FileText.{FileText, file_text, line_of}
+use Rattle.line_files.specs.FileText.{line_of}
 use Rattle.line_files.specs.Steps.{◌>>=◌}
 use Rattle.line_files.specs.declared.lines.TextEnd.{TextEnd}
 use Rattle.line_files.specs.declared.lines.TextEnd.TheVariants.{Whole}
@@ -35,12 +35,12 @@ use Rattle.named_sets.proofs.ReadSets.{set_of-members}
 use Rattle.named_sets.proofs.WrittenSets.{members-names}
 use Rattle.network_file.specs.LineForms.{nodes_form, names_form, if_count, is_named, NodeToken, Number, node_from, node_at, FactTokens, fact_form}
 use Rattle.network_file.specs.NetworkText.{network_text}
-use Rattle.network_file.specs.NetworkFile.{Contents, contents_from, nodes_within, nodes_line, names_here, names_line, node_of, if_distinct, fact_from, fact_of_set, fact_of_second, fact_of_first, fact_of_form, fact_line, facts_at_end, fact_lines, after_names, after_nodes, read_lines, read_network, IsNetworkOfContents, IsFileOf}
+use Rattle.network_file.specs.NetworkFile.{Contents, contents_from, nodes_within, nodes_line, names_here, names_line, node_of, fact_from, fact_of_set, fact_of_second, fact_of_first, fact_of_form, fact_line, facts_at_end, fact_lines, after_names, after_nodes, read_lines, read_network, IsNetworkOfContents, IsFileOf}
 use Rattle.network_file.specs.Laws.{IsPrintable, FileHasOneFault, FileHasNoFault}
 use Rattle.network_file.specs.declared.fault.FileFault.{FileFault}
 use Rattle.network_file.specs.declared.fault.FileFault.TheVariants.{Nodes, Syntax, NoNode, SelfEdge, Unknown}
 use Rattle.network_file.proofs.NamesLine.{has_twice-distinct, names_line-read}
-use Rattle.network_file.proofs.PrintedLines.{small, pairs_below, edge_tokens_of, names_tokens_of, names_lines, file_lines, network_text-printed, IsPair, file_tokens, pairs_below-pairs, Among, pairs_below-has}
+use Rattle.network_file.proofs.PrintedLines.{small, pairs_below, edge_tokens_of, names_lines, file_lines, network_text-printed, IsPair, file_tokens, pairs_below-pairs, Among, pairs_below-has}
 
 -- ---- one network at most
 

@@ -1,5 +1,5 @@
 -- A network file from its parts, and its network.
-use Rattle.std.proofs.Common.{◌≡◌, ℕ, List, [], Ok, refl, sym, ◌∙◌, ap, subst}
+use Rattle.std.proofs.Common.{◌≡◌, ℕ, List, [], Ok, sym, ◌∙◌, ap, subst}
 use Rattle.calculus_table.specs.Calculus.{NamedAlgebra}
 use Rattle.network_words.specs.Network.{Network, IsNetwork}
 use Rattle.network_words.specs.Facts.{IsNetworkOfFacts}

@@ -1,16 +1,11 @@
 -- The canonical text of a network.
-use Rattle.std.specs.Prelude.{ℕ, zero, suc, List, [], ◌∷◌, ◌++◌, length, nat_lt, ◌==◌, if◌then◌else◌, slice_index, codes}
+use Rattle.std.specs.Prelude.{ℕ, List, [], ◌++◌, length, nat_lt, ◌==◌, if◌then◌else◌, slice_index, codes}
 use Rattle.std.specs.Fmt.{decimal}
 use Rattle.calculus_table.specs.Calculus.{NamedAlgebra}
 use Rattle.network_words.specs.Edge.{edge_at}
 use Rattle.network_words.specs.Network.{Network}
 use Rattle.qsr_lex.specs.Printed.{text_below, word_text}
 use Rattle.named_sets.specs.Written.{set_line}
-
--- the numbers below n, each with a space after it
-unfoldable pub number_texts : ℕ → List (List ℕ)
-number_texts zero = []
-number_texts (suc n) = number_texts n ++ (decimal n ++ codes " ") ∷ []
 
 -- the line of an edge: its nodes and its set
 abbrev pub edge_line : NamedAlgebra → Network → ℕ → ℕ → List ℕ

@@ -2,12 +2,15 @@
 //!
 //! Of a line the form is tested first, then the nodes from left to right, that they differ, and the base relations. The
 //! fact then narrows the network at once: no list of facts is made.
-ghost use Rattle.std.specs.Prelude.{◌≡◌, ◌-◌, ◌^◌, ◌<◌, [], length, IfOk, IfErr, OnOk, MatchBool, List, Ok, Err, false};
+ghost use Rattle.std.specs.Prelude.{◌≡◌, ◌-◌, ◌^◌, ◌<◌, [], ◌∷◌, length, IfOk, IfErr, OnOk, MatchBool, List, Ok, Err};
+ghost use Rattle.std.specs.Prelude.{true, false};
 ghost use Rattle.calculus_table.specs.Rel.{IsWithin};
 ghost use Rattle.network_words.specs.Edge.{IsProperPair};
 ghost use Rattle.network_words.specs.Facts.{IsNetworkOfFacts};
 ghost use Rattle.network_words.specs.declared.fact.Fact.{Fact};
+ghost use Rattle.qsr_lex.specs.Lexemes.{lexeme_with};
 ghost use Rattle.qsr_lex.specs.LineTokens.{is_end_line};
+ghost use Rattle.qsr_lex.specs.declared.tokens.TokenKind.TheVariants.{Word};
 ghost use Rattle.network_file.specs.LineForms.{is_named};
 ghost use Rattle.network_file.specs.FormsRead.{node_read};
 ghost use Rattle.network_file.specs.NetworkFile.{FailsWith, node_of, fact_line, facts_at_end, fact_lines, ReadsLine};
@@ -60,29 +63,43 @@ fn read_line(
     ensures fault { IfErr result (FailsWith
         (fact_line c.now.names net.old.nodes net.old.names line tokens.old)) }
 {
-    if tokens.is_end_line() {
-        return Ok(true);
-    }
-    let fact = read_fact(line, tokens, bases, net)?;
+    let Some(word) = tokens.word() else {
+        return read_end_line(line, tokens);
+    };
+    let fact = read_fact(line, word, tokens, bases, net)?;
     net.narrow(c, fact.i, fact.j, fact.rel);
     Ok(false)
 }
 
-/// The fact of a line.
-fn read_fact(
+/// Whether a line is the end line, which is a fault where it isn't.
+fn read_end_line(line: u32, tokens: &TokenReader<'_>) -> Result<bool, FileFault>
+    ensures ok { IfOk result (λ is_end. (is_end ≡ true) × (is_end_line tokens.now ≡ true)) }
+    ensures form { IfErr result (λ _. is_end_line tokens.now ≡ false) }
+    ensures fault { IfErr result (λ fault. fault ≡ FileFault.Syntax line) }
+{
+    if tokens.is_end_line() {
+        Ok(true)
+    } else {
+        Err(FileFault::Syntax { line })
+    }
+}
+
+/// The fact of a line that begins with this word.
+fn read_fact<'a>(
     line: u32,
-    tokens: &mut TokenReader<'_>,
+    word: &'a [u8],
+    tokens: &mut TokenReader<'a>,
     bases: &BaseNames<'_>,
     net: &Net,
 ) -> Result<Fact, FileFault>
-    ensures ok { IfOk result (λ fact.
-        fact_line bases.now net.now.nodes net.now.names line tokens.old ≡ Ok fact) }
+    ensures ok { IfOk result (λ fact. fact_line bases.now net.now.nodes net.now.names line
+        (lexeme_with Word word.now ∷ tokens.old) ≡ Ok fact) }
     ensures proper { IfOk result (λ fact. IsProperPair net.now.nodes fact.i fact.j) }
     ensures within { IfOk result (λ fact. IsWithin fact.rel (2 ^ length bases.now - 1)) }
-    ensures fault { IfErr result (λ fault.
-        fact_line bases.now net.now.nodes net.now.names line tokens.old ≡ Err fault) }
+    ensures fault { IfErr result (λ fault. fact_line bases.now net.now.nodes net.now.names line
+        (lexeme_with Word word.now ∷ tokens.old) ≡ Err fault) }
 {
-    let Some(form) = fact_form(is_named(net), tokens, bases) else {
+    let Some(form) = fact_form(is_named(net), word, tokens, bases) else {
         return Err(FileFault::Syntax { line });
     };
     let i = node_of(net, line, form.first)?;

@@ -2,10 +2,12 @@
 //!
 //! A line's form is tested before anything else of it. A node's token is read once, as a number or a name; whether
 //! there is such a node is asked where the facts are read.
-ghost use Rattle.std.specs.Prelude.{◌≡◌, ◌-◌, ◌^◌, map, length, All, IfOk, IfSome, IsErrOf, MatchOption, Some, None};
+ghost use Rattle.std.specs.Prelude.{◌≡◌, ◌-◌, ◌^◌, ◌∷◌, map, length, All, IfOk, IfSome, IsErrOf, MatchOption, Some, None};
 ghost use Rattle.std.specs.Prelude.{true};
 ghost use Rattle.calculus_table.specs.Rel.{IsWithin};
 ghost use Rattle.qsr_lex.specs.Names.{is_name};
+ghost use Rattle.qsr_lex.specs.Lexemes.{lexeme_with};
+ghost use Rattle.qsr_lex.specs.declared.tokens.TokenKind.TheVariants.{Word};
 ghost use Rattle.network_file.specs.LineForms.{nodes_form, names_form, node_token, node_at, fact_form};
 ghost use Rattle.network_file.specs.FormsRead.{node_read, fact_read};
 
@@ -84,18 +86,22 @@ fn node_at<'a>(named: bool, tokens: &mut TokenReader<'a>) -> Option<NodeToken<'a
     node_token(named, word)
 }
 
-/// The tokens of a line `I J ( R .. )`, where a node may be named if the nodes have names.
+/// The tokens of a line `I J ( R .. )` that begins with this word, where a node may be named if the
+/// nodes have names.
 pub(crate) fn fact_form<'a>(
     named: bool,
+    word: &'a [u8],
     tokens: &mut TokenReader<'a>,
     bases: &BaseNames<'_>,
 ) -> Option<FactTokens<'a>>
-    ensures form { MatchOption result (fact_form bases.now named tokens.old ≡ None)
-        (λ found. fact_form bases.now named tokens.old ≡ Some (fact_read found)) }
+    ensures form { MatchOption result
+        (fact_form bases.now named (lexeme_with Word word.now ∷ tokens.old) ≡ None)
+        (λ found. fact_form bases.now named (lexeme_with Word word.now ∷ tokens.old)
+        ≡ Some (fact_read found)) }
     ensures within { IfSome result (λ found.
         IfSome found.set (λ a. IsWithin a (2 ^ length bases.now - 1))) }
 {
-    let first = node_at(named, tokens)?;
+    let first = node_token(named, word)?;
     let second = node_at(named, tokens)?;
     let set = read_set(tokens, bases)?;
     if tokens.is_empty() {

@@ -1,12 +1,13 @@
 //! The canonical text of a network.
 //!
-//! Everything is appended to one text. The numbers of the nodes are written once, each with the space after it, and the
-//! line of a set is made once and copied wherever it recurs, so the line of an edge costs three copies.
-ghost use Rattle.std.specs.Prelude.{◌≡◌, ◌≢◌, ◌<◌, [], ◌++◌, length, map, slice_index_or, codes, OnOk, IfOk};
+//! Everything is appended to one text. The digits of a node's number are appended one by one, and the line of a set is
+//! made once and copied wherever it recurs, so the line of an edge costs one copy.
+ghost use Rattle.std.specs.Prelude.{◌≡◌, ◌≢◌, ◌<◌, ◌≤◌, [], ◌++◌, codes, OnOk, IfOk};
 ghost use Rattle.std.specs.Fmt.{decimal};
 ghost use Rattle.std.specs.String.{string_bytes};
 ghost use Rattle.qsr_lex.specs.Printed.{word_text};
-ghost use Rattle.network_file.specs.NetworkText.{number_texts, edge_line, row_text, names_text, network_text};
+ghost use Rattle.network_words.specs.declared.TheConstants.{MAX_NODES};
+ghost use Rattle.network_file.specs.NetworkText.{edge_line, row_text, names_text, network_text};
 
 use calculus_table::{Calculus, Memory};
 use named_sets::SetWriter;
@@ -22,8 +23,7 @@ pub fn text(alloc: Global, net: &Net, c: &Calculus) -> Result<String, Memory>
 {
     let mut text = String::with_capacity(alloc, likely_len(net)).map_err(|_| Memory)?;
     let mut sets = SetWriter::new(alloc, c)?;
-    let numbers = number_texts(alloc, net.nodes())?;
-    push_network(&mut text, net, &mut sets, &numbers)?;
+    push_network(&mut text, net, &mut sets)?;
     Ok(text)
 }
 
@@ -35,32 +35,14 @@ fn likely_len(net: &Net) -> usize {
         .saturating_add(64)
 }
 
-/// The number of each node below `nodes`, with a space after it.
-fn number_texts(alloc: Global, nodes: u32) -> Result<Vec<String>, Memory>
-    ensures { IfOk result (λ texts. map string_bytes texts.items ≡ number_texts nodes) }
-{
-    let mut texts = Vec::new(alloc);
-    for node in 0..nodes {
-        let text = format!(in alloc; "{node} ").map_err(|_| Memory)?;
-        texts.push(text).map_err(|_| Memory)?;
-    }
-    Ok(texts)
-}
-
 /// Appends the header, the names, a line for each edge, and the end line.
-fn push_network(
-    text: &mut String,
-    net: &Net,
-    sets: &mut SetWriter<'_>,
-    numbers: &[String],
-) -> Result<(), Memory>
-    requires { map string_bytes numbers.now ≡ number_texts net.now.nodes }
+fn push_network(text: &mut String, net: &Net, sets: &mut SetWriter<'_>) -> Result<(), Memory>
     ensures { OnOk result
         (string_bytes text.new ≡ string_bytes text.old ++ network_text sets.old net.now) }
 {
     push_header(text, net).map_err(|_| Memory)?;
     for i in 0..net.nodes() {
-        push_row(text, net, sets, numbers, i)?;
+        push_row(text, net, sets, i)?;
     }
     text.push_str(".\n").map_err(|_| Memory)?;
     Ok(())
@@ -107,22 +89,15 @@ fn push_name(text: &mut String, net: &Net, node: u32) -> Result<(), AllocError>
 }
 
 /// Appends the lines of the edges from `i`.
-fn push_row(
-    text: &mut String,
-    net: &Net,
-    sets: &mut SetWriter<'_>,
-    numbers: &[String],
-    i: u32,
-) -> Result<(), Memory>
+fn push_row(text: &mut String, net: &Net, sets: &mut SetWriter<'_>, i: u32) -> Result<(), Memory>
     requires below { i < net.now.nodes }
-    requires numbers { map string_bytes numbers.now ≡ number_texts net.now.nodes }
     ensures text { OnOk result
         (string_bytes text.new ≡ string_bytes text.old ++ row_text sets.old net.now i) }
     ensures sets { sets.new ≡ sets.old }
 {
     let nodes = net.nodes();
     for j in i + 1..nodes {
-        push_edge(text, net, sets, numbers, i, j)?;
+        push_edge(text, net, sets, i, j)?;
     }
     Ok(())
 }
@@ -132,31 +107,81 @@ fn push_edge(
     text: &mut String,
     net: &Net,
     sets: &mut SetWriter<'_>,
-    numbers: &[String],
     i: u32,
     j: u32,
 ) -> Result<(), Memory>
     requires order { i < j }
     requires below { j < net.now.nodes }
-    requires numbers { map string_bytes numbers.now ≡ number_texts net.now.nodes }
+    requires few { net.now.nodes ≤ MAX_NODES }
     ensures text { OnOk result
         (string_bytes text.new ≡ string_bytes text.old ++ edge_line sets.old net.now i j) }
     ensures sets { sets.new ≡ sets.old }
 {
-    push_number(text, numbers, i)?;
-    push_number(text, numbers, j)?;
+    let Ok(()) = push_nodes(text, i, j) else {
+        return Err(Memory);
+    };
     sets.push_line(text, net.word(net.edge(i, j)))?;
     Ok(())
 }
 
-/// Appends the number of a node and a space.
-fn push_number(text: &mut String, numbers: &[String], node: u32) -> Result<(), Memory>
-    requires { node < length numbers.now }
+/// Appends the numbers of two nodes, with a space after each.
+#[inline(always)]
+fn push_nodes(text: &mut String, i: u32, j: u32) -> Result<(), AllocError>
+    requires { (i < 1000) × (j < 1000) }
     ensures { OnOk result (string_bytes text.new
-        ≡ string_bytes text.old ++ slice_index_or (map string_bytes numbers.now) node []) }
+        ≡ string_bytes text.old ++ decimal i ++ codes " " ++ decimal j ++ codes " ") }
 {
-    match text.push_str(&numbers[node as usize]) {
-        Ok(()) => Ok(()),
-        Err(_) => Err(Memory),
+    push_number(text, i)?;
+    push_number(text, j)?;
+    Ok(())
+}
+
+/// Appends the number of a node and a space.
+#[inline(always)]
+fn push_number(text: &mut String, node: u32) -> Result<(), AllocError>
+    requires { node < 1000 }
+    ensures { OnOk result
+        (string_bytes text.new ≡ string_bytes text.old ++ decimal node ++ codes " ") }
+{
+    push_three_digits(text, node)?;
+    text.push(' ')?;
+    Ok(())
+}
+
+/// Appends a number of three digits at most.
+#[inline(always)]
+fn push_three_digits(text: &mut String, number: u32) -> Result<(), AllocError>
+    requires { number < 1000 }
+    ensures { OnOk result (string_bytes text.new ≡ string_bytes text.old ++ decimal number) }
+{
+    if number < 100 {
+        return push_two_digits(text, number);
     }
+    push_two_digits(text, number / 10)?;
+    push_digit(text, number % 10)?;
+    Ok(())
+}
+
+/// Appends a number of two digits at most.
+#[inline(always)]
+fn push_two_digits(text: &mut String, number: u32) -> Result<(), AllocError>
+    requires { number < 100 }
+    ensures { OnOk result (string_bytes text.new ≡ string_bytes text.old ++ decimal number) }
+{
+    if number < 10 {
+        return push_digit(text, number);
+    }
+    push_digit(text, number / 10)?;
+    push_digit(text, number % 10)?;
+    Ok(())
+}
+
+/// Appends a number of one digit.
+#[inline(always)]
+fn push_digit(text: &mut String, number: u32) -> Result<(), AllocError>
+    requires { number < 10 }
+    ensures { OnOk result (string_bytes text.new ≡ string_bytes text.old ++ decimal number) }
+{
+    text.push(char::from(b'0' + number as u8))?;
+    Ok(())
 }

@@ -1,4 +1,4 @@
-use Rattle.std.proofs.Common.{◌≡◌, ◌+◌, ◌++◌, [], refl, ◌∙◌, ap, sym, arith, cond}
+use Rattle.std.proofs.Common.{◌+◌, ◌++◌, [], refl, ◌∙◌, ap, sym, arith, cond}
 use Rattle.std.specs.String.{string_bytes}
 use Rattle.std.proofs.lemmas.Bool.{le-ltb, lt-ltb}
 use Rattle.network_file.specs.NetworkText.{later_line, edge_line}
