@@ -13,7 +13,7 @@ use Rattle.network_words.specs.Network.{IsNetwork, Refines}
 use Rattle.network_words.specs.Closure.{IsClosed, IsClosure}
 use Rattle.network_words.specs.Scenario.{IsScenario, as_network}
 use Rattle.network_words.proofs.Scenarios.{IsScenario-closed}
-use Rattle.tract_classes.specs.Class.{IsClass, HasBase}
+use Rattle.tract_classes.specs.Class.{HasBase}
 use Rattle.refutation.specs.Tree.{NestedTree, leaf, split, Branches, no_branches, branch, parts_of}
 use Rattle.split_search.specs.Ruled.{at_scenario, Ends, EndsAmong}
 use Rattle.split_search.specs.Laws.{YesHasScenario}
@@ -29,7 +29,7 @@ scenario-refines m n smaller words relations within s = record {
   composes = s.composes;
 }
 
-module _ (m : Algebra) (n : ℕ) (class : List ℕ) (calculus : IsCalculus m) (is : IsClass class) (bases : EachBase m (HasBase class)) (relations : List ℕ) where
+module _ (m : Algebra) (n : ℕ) (class : List ℕ) (calculus : IsCalculus m) (bases : EachBase m (HasBase class)) (relations : List ℕ) where
   leaf-scenario : (net closed : List ℕ) → IsNetwork m n net → IsClosure m n net closed → as_network relations ≡ closed → IsScenario m n net relations
   leaf-scenario net closed network is_closure singles =
       let own : IsNetwork m n closed = closure-network m n net closed network is_closure in
@@ -47,7 +47,7 @@ module _ (m : Algebra) (n : ℕ) (class : List ℕ) (calculus : IsCalculus m) (i
     found-scenario net closed (split i j steps branches) network is_closure (at, ends) =
         let e = edge_at n i j in
         let own : IsNetwork m n closed = closure-network m n net closed network is_closure in
-        let made : MakeUp (slice_index closed e) (parts_of branches) = ruled-make_up m n class is bases closed e (parts_of branches) own at.undecided at.ruled in
+        let made : MakeUp (slice_index closed e) (parts_of branches) = ruled-make_up m n class bases closed e (parts_of branches) own at.undecided at.ruled in
         scenario-refines m n closed net relations is_closure.within
         (found-among closed e branches own (split-below m class closed e (parts_of branches) at.ruled) made.within ends)
 
@@ -63,5 +63,5 @@ module _ (m : Algebra) (n : ℕ) (class : List ℕ) (calculus : IsCalculus m) (i
         found-among closed e rest network below (All-tail (λ p. IsWithin p (slice_index closed e)) part (parts_of rest) within) ends
 
 pub yes_scenario : YesHasScenario
-yes_scenario m n class budget words relations nodes calculus net is bases v =
-    found-scenario m n class calculus is bases relations words v.closure v.tree net v.is_closure v.has.0
+yes_scenario m n class budget words relations nodes calculus net bases v =
+    found-scenario m n class calculus bases relations words v.closure v.tree net v.is_closure v.has.0

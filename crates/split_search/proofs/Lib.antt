@@ -10,3 +10,11 @@ pub mod Ways
 pub mod Transitions
 pub mod Leaving
 pub mod Stopping
+pub mod Partitions
+pub mod Bounds
+pub mod Steps
+pub mod Stops
+pub mod Sweeps
+pub mod Bases
+pub mod Later
+pub mod Whole

@@ -15,7 +15,7 @@ use Rattle.network_words.specs.Edge.{edge_at}
 use Rattle.network_words.specs.Network.{IsNetwork, Refines}
 use Rattle.network_words.specs.Closure.{IsClosure}
 use Rattle.network_words.proofs.Networks.{IsClosure-unique}
-use Rattle.tract_classes.specs.Class.{IsClass, HasBase}
+use Rattle.tract_classes.specs.Class.{HasBase}
 use Rattle.tract_classes.specs.Parts.{AreDisjoint, union_of}
 use Rattle.calculus_table.proofs.Sets.{Has-meet, Has-meet_l, Has-meet_r, Has-union, not_Has-empty, IsWithin-refl}
 use Rattle.tract_classes.proofs.Leftovers.{empty-from}
@@ -173,7 +173,7 @@ extra-spent : extra spent ≡ 1
 unfolding extra
 extra-spent = refl
 
-module _ (m : Algebra) (n : ℕ) (class : List ℕ) (is : IsClass class) (bases : EachBase m (HasBase class)) where
+module _ (m : Algebra) (n : ℕ) (class : List ℕ) (bases : EachBase m (HasBase class)) where
   leaf-bound : (s : Status) (net closed : List ℕ) (k : Kind) (steps : NodeSteps) → IsClosure m n net closed → 1 ≤ product net → IsLeafOf s closed k steps →
       1 + extra s ≤ product net
   unfolding extra
@@ -226,7 +226,7 @@ module _ (m : Algebra) (n : ℕ) (class : List ℕ) (is : IsClass class) (bases 
         let at = split-at m n class s closed i j steps bs h in
         let own : IsNetwork m n closed = closure-network m n net closed network is_closure in
         let below : e < length closed = split-below m class closed e (parts_of bs) at.ruled in
-        let made : MakeUp (slice_index closed e) (parts_of bs) = ruled-make_up m n class is bases closed e (parts_of bs) own at.undecided at.ruled in
+        let made : MakeUp (slice_index closed e) (parts_of bs) = ruled-make_up m n class bases closed e (parts_of bs) own at.undecided at.ruled in
         let r = others closed e in
         let among : IsBound s bs r = bound-among s closed e bs own below made.within made.some (others-some closed e below at.undecided.no_empty)
         (split-among m n class s closed i j steps bs h) in
@@ -258,7 +258,7 @@ spent-undecided m n class closed (leaf k steps) h = h.1.1
 spent-undecided m n class closed (split i j steps bs) h = h.0.undecided
 
 pub budget_suffices : BudgetSuffices
-budget_suffices m n class budget words closure nodes calculus net is bases is_closure few v =
+budget_suffices m n class budget words closure nodes calculus net bases is_closure few v =
     let same : v.closure ≡ closure = IsClosure-unique m n words v.closure closure v.is_closure is_closure in
     let own : IsNetwork m n closure = closure-network m n words closure net is_closure in
     let itself : IsClosure m n closure closure = record {
@@ -269,4 +269,4 @@ budget_suffices m n class budget words closure nodes calculus net is bases is_cl
     } in
     let ends : Ends m n class at_budget closure v.tree = subst (λ c. Ends m n class at_budget c v.tree) same v.has.0 in
     let some : 1 ≤ product closure = product-some closure (spent-undecided m n class closure v.tree ends).no_empty in
-    omega (arith, bound m n class is bases spent closure closure v.tree own itself some ends, v.has.1, few, extra-spent)
+    omega (arith, bound m n class bases spent closure closure v.tree own itself some ends, v.has.1, few, extra-spent)

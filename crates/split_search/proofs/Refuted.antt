@@ -11,7 +11,7 @@ use Rattle.std.proofs.lemmas.Nat.{and_comm}
 use Rattle.network_words.specs.Edge.{edge_at}
 use Rattle.network_words.specs.Network.{IsNetwork}
 use Rattle.network_words.specs.Closure.{IsClosure}
-use Rattle.tract_classes.specs.Class.{IsClass, HasBase}
+use Rattle.tract_classes.specs.Class.{HasBase}
 use Rattle.tract_classes.specs.Parts.{union_of}
 use Rattle.refutation.specs.declared.tree.Kind.{Kind}
 use Rattle.refutation.specs.declared.tree.Kind.TheVariants.{Empty, Found, Open, Later, Split}
@@ -55,11 +55,11 @@ pub split-below : (m : Algebra) (class words : List ℕ) (e : ℕ) (parts : List
 split-below m class words e parts (inl s) = s.first.below
 split-below m class words e parts (inr s) = s.first.below
 
-module _ (m : Algebra) (n : ℕ) (class : List ℕ) (is : IsClass class) (bases : EachBase m (HasBase class)) where
+module _ (m : Algebra) (n : ℕ) (class : List ℕ) (bases : EachBase m (HasBase class)) where
   pub ruled-make_up : (words : List ℕ) (e : ℕ) (parts : List ℕ) → IsNetwork m n words → IsUndecided words → IsRuledSplit m class words e parts →
       MakeUp (slice_index words e) parts
   ruled-make_up words e parts net undecided ruled =
-      make_up m class words e parts is bases (net.within e) (not-empty words e (split-below m class words e parts ruled) undecided.no_empty) ruled
+      make_up m class words e parts bases (net.within e) (not-empty words e (split-below m class words e parts ruled) undecided.no_empty) ruled
 
   -- the union of the parts, as refutations have it
   union-same : (parts : List ℕ) → refutes.union_of parts ≡ union_of parts
@@ -127,11 +127,11 @@ module _ (m : Algebra) (n : ℕ) (class : List ℕ) (is : IsClass class) (bases 
         )
 
 pub no_refutation : NoHasRefutation
-no_refutation m n class budget words nodes calculus net is bases v = record {
+no_refutation m n class budget words nodes calculus net bases v = record {
   tree = v.tree;
   stands = record {
     nodes_are = ap (map bare) v.nodes_are ∙ bare-preorder 0 v.tree;
-    is_tree = done-tree m n class is bases words v.closure v.tree net v.is_closure v.has.0;
+    is_tree = done-tree m n class bases words v.closure v.tree net v.is_closure v.has.0;
   };
-  refutes = done-refutes m n class is bases words v.closure v.tree net v.is_closure v.has.0;
+  refutes = done-refutes m n class bases words v.closure v.tree net v.is_closure v.has.0;
 }

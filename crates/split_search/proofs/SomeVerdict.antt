@@ -277,7 +277,7 @@ module _ (m : Algebra) (n : ℕ) (class : List ℕ) (calculus : IsCalculus m) (i
   explore_split closed zero network u s own = open_leaf closed u
   explore_split closed (suc b) network u s own =
       let below : s.edge < length closed = split-below m class closed s.edge s.parts s.ruled in
-      let made : MakeUp (slice_index closed s.edge) s.parts = ruled-make_up m n class is bases closed s.edge s.parts network u s.ruled in
+      let made : MakeUp (slice_index closed s.edge) s.parts = ruled-make_up m n class bases closed s.edge s.parts network u s.ruled in
       let child : (p c : ℕ) → IsPart (slice_index closed s.edge) p → ChildOutcome closed s.edge p c = λ p c part.
       (let net : IsNetwork m n (slice_set closed s.edge p) = set-network m n closed s.edge p network below part.within in
       let closure = closure_of m n (slice_set closed s.edge p) calculus net in

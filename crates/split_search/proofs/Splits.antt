@@ -14,10 +14,10 @@ use Rattle.calculus_table.specs.Composition.{full_of}
 use Rattle.calculus_table.specs.Calculus.{EachBase}
 use Rattle.calculus_table.proofs.Sets.{Has-union_l, Has-union_r, Has-single, IsWithin-refl, IsWithin-antisym, IsWithin-empty, IsWithin-union, IsWithin-union_l}
 use Rattle.calculus_table.proofs.Members.{single-member, full-member}
-use Rattle.tract_classes.specs.Class.{IsClass, HasBase, HasBasesOf}
+use Rattle.tract_classes.specs.Class.{HasBase, HasBasesOf}
 use Rattle.tract_classes.specs.Parts.{AreDisjoint, union_of, IsPartition}
-use Rattle.tract_classes.proofs.PartsOfSets.{parts_partition}
 use Rattle.split_search.specs.Ruled.{IsClassSplit, IsSinglesSplit, IsRuledSplit}
+use Rattle.split_search.proofs.Partitions.{partition_within}
 
 -- two parts at least, which make up the set and have nothing in common, and of which none is empty
 pub record MakeUp (set : ℕ) (parts : List ℕ) : Type 0 where
@@ -50,12 +50,12 @@ union_none a = IsWithin-antisym (bit_or a 0) a (IsWithin-union a 0 a (IsWithin-r
 
 -- ---- the parts of a set in a class
 
-class-make_up : (m : Algebra) (class words : List ℕ) (e : ℕ) (parts : List ℕ) → IsClass class → EachBase m (HasBase class) →
+class-make_up : (m : Algebra) (class words : List ℕ) (e : ℕ) (parts : List ℕ) → EachBase m (HasBase class) →
     IsWithin (slice_index words e) (full_of m) → slice_index words e ≢ 0 → IsClassSplit class words e parts → MakeUp (slice_index words e) parts
-class-make_up m class words e parts is bases within some split =
+class-make_up m class words e parts bases within some split =
     let set = slice_index words e in
     let has_bases : HasBasesOf class set = λ r h. bases r (full-member m r (within.each r h)) in
-    let partition : IsPartition class set parts = parts_partition class set parts is has_bases split.are_parts in
+    let partition : IsPartition class set parts = (partition_within class set parts has_bases split.are_parts).partition in
     record {
       within = parts_all parts (λ p. IsWithin p set) (λ p c. subst (IsWithin p) partition.union (part-within parts p c));
       some = partition.some;
@@ -175,7 +175,7 @@ singles-make_up m class words e parts within split =
         absurd (omega (arith, ap count_ones (sym u), ap count_ones (union_none a), ap count_ones s.is, count_single s.base))
     two (a ∷ b ∷ ps) u several each = omega arith
 
-pub make_up : (m : Algebra) (class words : List ℕ) (e : ℕ) (parts : List ℕ) → IsClass class → EachBase m (HasBase class) →
+pub make_up : (m : Algebra) (class words : List ℕ) (e : ℕ) (parts : List ℕ) → EachBase m (HasBase class) →
     IsWithin (slice_index words e) (full_of m) → slice_index words e ≢ 0 → IsRuledSplit m class words e parts → MakeUp (slice_index words e) parts
-make_up m class words e parts is bases within some (inl split) = class-make_up m class words e parts is bases within some split
-make_up m class words e parts is bases within some (inr split) = singles-make_up m class words e parts within split
+make_up m class words e parts bases within some (inl split) = class-make_up m class words e parts bases within some split
+make_up m class words e parts bases within some (inr split) = singles-make_up m class words e parts within split

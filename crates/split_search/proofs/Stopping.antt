@@ -13,11 +13,11 @@ use Rattle.split_search.specs.Way.{SplitState, node_of, branches_with, nodes_of_
 use Rattle.split_search.proofs.Ways.{branches_with-parts, ends-among}
 use Rattle.split_search.proofs.Transitions.{tree_of, tree_of-is, tree_of-nodes, tree_of-splits, set-middle, child-last}
 
-replicate-last : (k : ℕ) (t : NestedTree) → replicate k t ++ t ∷ [] ≡ replicate (suc k) t
+pub replicate-last : (k : ℕ) (t : NestedTree) → replicate k t ++ t ∷ [] ≡ replicate (suc k) t
 replicate-last zero t = refl
 replicate-last (suc k) t = ap (λ xs. t ∷ xs) (replicate-last k t)
 
-length-copies : (k : ℕ) (t : NestedTree) → length (replicate k t) ≡ k
+pub length-copies : (k : ℕ) (t : NestedTree) → length (replicate k t) ≡ k
 length-copies zero t = refl
 length-copies (suc k) t = ap suc (length-copies k t)
 

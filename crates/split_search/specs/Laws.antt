@@ -28,18 +28,18 @@ VerdictExists =
 abbrev pub YesHasScenario : Type 0
 YesHasScenario =
     (m : Algebra) (n : ℕ) (class : List ℕ) (budget : ℕ) (words relations : List ℕ) (nodes : List TreeNode) → IsCalculus m →
-    IsNetwork m n words → IsClass class → EachBase m (HasBase class) → IsVerdict m n class budget words (Yes relations nodes) →
+    IsNetwork m n words → EachBase m (HasBase class) → IsVerdict m n class budget words (Yes relations nodes) →
     IsScenario m n words relations
 
 -- no has a tree that refutes the network
 abbrev pub NoHasRefutation : Type 0
 NoHasRefutation =
     (m : Algebra) (n : ℕ) (class : List ℕ) (budget : ℕ) (words : List ℕ) (nodes : List TreeNode) → IsCalculus m → IsNetwork m n words →
-    IsClass class → EachBase m (HasBase class) → IsVerdict m n class budget words (No nodes) → IsRefutation m n words nodes
+    EachBase m (HasBase class) → IsVerdict m n class budget words (No nodes) → IsRefutation m n words nodes
 
 -- the budget isn't spent where the product of the sizes of the closed sets is one more than it at most
 abbrev pub BudgetSuffices : Type 0
 BudgetSuffices =
     (m : Algebra) (n : ℕ) (class : List ℕ) (budget : ℕ) (words closure : List ℕ) (nodes : List TreeNode) → IsCalculus m →
-    IsNetwork m n words → IsClass class → EachBase m (HasBase class) → IsClosure m n words closure → product closure ≤ budget + 1 →
+    IsNetwork m n words → EachBase m (HasBase class) → IsClosure m n words closure → product closure ≤ budget + 1 →
     ¬ IsVerdict m n class budget words (Budget nodes)

@@ -75,7 +75,7 @@ fn first_several(net: &Net) -> Option<u32>
 }
 
 /// The single base relations of a set, in ascending order.
-fn singles(alloc: Global, size: u32, rel: Rel) -> Result<Vec<Rel>, Memory>
+pub(crate) fn singles(alloc: Global, size: u32, rel: Rel) -> Result<Vec<Rel>, Memory>
     requires { size ≤ 64 }
     ensures { IfOk result (λ parts. parts.items ≡ singles_in size rel) }
 {

@@ -18,11 +18,19 @@
 #![tactic(auto)]
 
 mod choosing;
+mod edges;
 mod laws;
+mod next;
+mod searching;
+mod split;
 #[cfg(test)]
 mod tests;
 mod verdict;
 
 pub use choosing::ruled_split;
 pub use laws::laws_of_ruled_trees;
+pub use searching::solve;
 pub use verdict::Verdict;
+
+/// The greatest budget of splits.
+pub const MAX_BUDGET: u32 = 10_000;
