@@ -18,3 +18,5 @@ pub mod Sweeps
 pub mod Bases
 pub mod Later
 pub mod Whole
+pub mod Counts
+pub mod Truths

@@ -24,7 +24,7 @@ ghost use Rattle.split_search.specs.Ruled.{IsSeveral, IsUndecided, End, at_scena
 ghost use Rattle.split_search.specs.Way.{node_of, IsLeft};
 ghost use Rattle.split_search.specs.Searches.{IsNextEdge, IsTask, task_of, held_of, held_with, work_left};
 ghost use Rattle.split_search.specs.Searches.{IsAtChild, IsGoing, HasStopped, end_of, AreLeft};
-ghost use Rattle.split_search.specs.Verdicts.{nodes_of};
+ghost use Rattle.split_search.specs.Verdicts.{IsTrueOf, KeepsBudget, AreSearched, nodes_of};
 
 use crate::MAX_BUDGET;
 use crate::edges::nodes_of_edge;
@@ -80,8 +80,10 @@ pub fn solve<C: Compose>(
     requires budget { budget ≤ MAX_BUDGET }
     ensures ruled { IfOk result
         (IsVerdict (C.algebra c.now) net.now.nodes class.now budget net.now.words) }
-    ensures sweeps { IfOk result (λ v. All (λ node. node.steps ≡ sweep) (nodes_of v)) }
-    ensures few { IfOk result (λ v. length (nodes_of v) ≤ 64 * budget + 1) }
+    ensures is_true { IfOk result
+        (IsTrueOf (C.algebra c.now) net.now.nodes net.now.words budget) }
+    ensures splits { IfOk result (KeepsBudget budget) }
+    ensures nodes { IfOk result (λ v. AreSearched budget (nodes_of v)) }
 {
     let path = ClosedPath::new(alloc, net, c)?;
     let mut search = Search {

@@ -1,10 +1,10 @@
-use Rattle.std.proofs.Common.{◌≡◌, ℕ, length, refl, sym, ap, subst, ◌∙◌, arith}
+use Rattle.std.proofs.Common.{◌≡◌, ℕ, ◌+◌, ◌*◌, ◌≤◌, length, refl, sym, ap, subst, ◌∙◌, arith}
 use Rattle.std.proofs.lemmas.Option.{MatchOption-at_none}
 use Rattle.calculus_table.specs.Algebra.{Algebra}
 use Rattle.split_search.specs.declared.verdict.Verdict.TheVariants.{Yes, No, Budget}
 use Rattle.split_search.specs.Ruled.{IsVerdict}
 use Rattle.split_search.specs.Searches.{Task, IsTask, task_of, held_of, end_of, HasStopped, IsGoing}
-use Rattle.split_search.proofs.Sweeps.{verdict-swept}
+use Rattle.split_search.proofs.Truths.{told}
 use Rattle.split_search.proofs.Whole.{IsVerdictOf, nodes-few, no-of, stop-after, stop-few, found-of, spent-of}
 use Rattle.split_search.proofs.searching.solve.Goals as goal
 
@@ -38,11 +38,9 @@ returns-in_default g c =
     let going : IsGoing t held c.run.new.self.path.top = subst (λ (x : Task). IsGoing x held c.run.new.self.path.top) is h.1 in
     let ruled : IsVerdict m n c.args.class.now c.args.budget c.args.net.now.words (No tree) =
     subst (λ xs. IsVerdictOf t (No xs)) (sym c.into_tree.ensures) (no-of t held c.run.new.self.path.top h.0 going) in
-    record {
-      ruled = ruled;
-      sweeps = verdict-swept m n c.args.class.now c.args.budget c.args.net.now.words (No tree) ruled;
-      few = omega (arith, nodes-few t held going.bound, ap length c.into_tree.ensures);
-    }
+    let few : length tree ≤ 64 * c.args.budget + 1 = omega (arith, nodes-few t held going.bound, ap length c.into_tree.ensures) in
+    let all = told m n c.args.class.now c.args.budget c.args.net.now.words c.size.ensures.calculus c.requires.network c.requires.bases (No tree) ruled few in
+    record { ruled = all.ruled; is_true = all.is_true; splits = all.splits; nodes = all.nodes }
 
 pub returns-in-Found : goal.returns-in-Found
 returns-in-Found g c =
@@ -59,11 +57,8 @@ returns-in-Found g c =
     c.in_ok-stop.ensures.stop c.in-Some.is c.in_ok-close_all.ensures.stopped in
     let ruled : IsVerdict m n c.args.class.now c.args.budget c.args.net.now.words (Yes c.in-Found.scenario tree) =
     found-of t c.in-Some.stop closed h c.in_ok-close_all.ensures.closed tree c.into_tree-tree.ensures c.in-Found.scenario c.in-Found.is in
-    record {
-      ruled = ruled;
-      sweeps = verdict-swept m n c.args.class.now c.args.budget c.args.net.now.words (Yes c.in-Found.scenario tree) ruled;
-      few = stop-few t c.in-Some.stop closed h tree c.into_tree-tree.ensures;
-    }
+    let all = told m n c.args.class.now c.args.budget c.args.net.now.words c.size.ensures.calculus c.requires.network c.requires.bases (Yes c.in-Found.scenario tree) ruled (stop-few t c.in-Some.stop closed h tree c.into_tree-tree.ensures) in
+    record { ruled = all.ruled; is_true = all.is_true; splits = all.splits; nodes = all.nodes }
 
 pub returns-in-Spent : goal.returns-in-Spent
 returns-in-Spent g c =
@@ -80,8 +75,5 @@ returns-in-Spent g c =
     c.in_ok-stop.ensures.stop c.in-Some.is c.in_ok-close_all.ensures.stopped in
     let ruled : IsVerdict m n c.args.class.now c.args.budget c.args.net.now.words (Budget tree) =
     spent-of t c.in-Some.stop closed h c.in_ok-close_all.ensures.closed tree c.into_tree-tree.ensures c.in-Spent.is in
-    record {
-      ruled = ruled;
-      sweeps = verdict-swept m n c.args.class.now c.args.budget c.args.net.now.words (Budget tree) ruled;
-      few = stop-few t c.in-Some.stop closed h tree c.into_tree-tree.ensures;
-    }
+    let all = told m n c.args.class.now c.args.budget c.args.net.now.words c.size.ensures.calculus c.requires.network c.requires.bases (Budget tree) ruled (stop-few t c.in-Some.stop closed h tree c.into_tree-tree.ensures) in
+    record { ruled = all.ruled; is_true = all.is_true; splits = all.splits; nodes = all.nodes }
