@@ -1,9 +1,9 @@
 -- What verdicts say, and their trees.
-use Rattle.std.specs.Prelude.{◌≡◌, ℕ, ◌+◌, ◌*◌, ◌<◌, ◌≤◌, List, length, map, All, count_by}
+use Rattle.std.specs.Prelude.{◌≡◌, ℕ, ◌+◌, ◌*◌, ◌^◌, ◌<◌, ◌≤◌, List, length, map, All, count_by}
 use Rattle.calculus_table.specs.Algebra.{Algebra}
 use Rattle.network_words.specs.Closure.{IsClosure}
 use Rattle.network_words.specs.Scenario.{IsScenario}
-use Rattle.refutation.specs.Tree.{TreeNode, sweep, bare, is_split}
+use Rattle.refutation.specs.Tree.{TreeNode, sweep, bare, is_split, AreFewSteps}
 use Rattle.refutation.specs.Refutes.{IsRefutation}
 use Rattle.split_search.specs.declared.verdict.Verdict.{Verdict}
 use Rattle.split_search.specs.declared.verdict.Verdict.TheVariants.{Yes, No, Budget}
@@ -28,8 +28,11 @@ nodes_of (Yes relations nodes) = nodes
 nodes_of (No nodes) = nodes
 nodes_of (Budget nodes) = nodes
 
--- the nodes of a search: each closes its network, a leaf holds nothing beside its kind, and a split has 64 children at most
+-- the nodes of a search: each closes its network, a leaf holds nothing beside its kind, and a split has 64 children at most; so
+-- their number and their steps are within the limits for trees that are checked
 pub record AreSearched (budget : ℕ) (nodes : List TreeNode) : Type 0 where
   pub sweeps : All (λ node. node.steps ≡ sweep) nodes
+  pub steps : All (λ node. AreFewSteps node.steps) nodes
   pub leaves : map bare nodes ≡ nodes
   pub few : length nodes ≤ 64 * budget + 1
+  pub short : length nodes < 2 ^ 32

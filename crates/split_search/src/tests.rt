@@ -1,5 +1,5 @@
-//! Splits of networks of regions, and of colourings of the edges of a graph (Ramsey 1930).
-ghost use Rattle.std.specs.Prelude.{◌≡◌, IsTrue, IfOk, length};
+//! Splits and searches of networks of regions, and of colourings of the edges of a graph (Ramsey 1930).
+ghost use Rattle.std.specs.Prelude.{◌≡◌, ◌<◌, ◌≤◌, IsTrue, IfOk, length};
 ghost use Rattle.calculus_table.specs.Calculus.{EachBase};
 ghost use Rattle.network_words.specs.Network.{IsNetwork};
 ghost use Rattle.tract_classes.specs.Class.{HasBase};
@@ -9,6 +9,8 @@ use calculus_builtin::rcc8;
 use calculus_table::{Calculus, Compose, Rel, TableFault};
 use closure_seq::close;
 use network_words::Net;
+use refutation::{Kind, check as check_tree};
+use scenario::{Scenario, check as check_scenario};
 use std::alloc::Global;
 use std::process::Abort;
 use std::test::Fail;
@@ -73,6 +75,22 @@ fn has_bases<C: Compose>(class: &Class, c: &C) -> bool
     true
 }
 
+/// The network of these words.
+fn net_of<C: Compose>(
+    rt: &impl Abort,
+    alloc: Global,
+    c: &C,
+    nodes: u32,
+    words: &[u64],
+) -> Result<Net, Fail> {
+    let mut net = Net::new(alloc, nodes, c.full())?;
+    for edge in 0..net.edges() {
+        assert!(rt; edge < net.edges() && (edge as usize) < words.len());
+        net.set(edge, Rel::of(words[edge as usize]));
+    }
+    Ok(net)
+}
+
 /// The split of the closure of the network of these words.
 fn split_of<C: Compose>(
     rt: &impl Abort,
@@ -82,11 +100,7 @@ fn split_of<C: Compose>(
     nodes: u32,
     words: &[u64],
 ) -> Result<Option<(u32, Vec<Rel>)>, Fail> {
-    let mut net = Net::new(alloc, nodes, c.full())?;
-    for edge in 0..net.edges() {
-        assert!(rt; edge < net.edges() && (edge as usize) < words.len());
-        net.set(edge, Rel::of(words[edge as usize]));
-    }
+    let mut net = net_of(rt, alloc, c, nodes, words)?;
     assert!(rt; is_network(&net, c) && has_bases(class, c));
     close(alloc, &mut net, c)?;
     assert!(rt; is_network(&net, c));
@@ -143,6 +157,192 @@ fn splits_are_ruled(rt: HostRuntime) -> Result<(), Fail> {
     for (nodes, words, expected) in rows {
         let split = split_of(&rt, alloc, &colours, &singles, nodes, words)?;
         assert_split(&rt, split, expected)?;
+    }
+    Ok(())
+}
+
+/// What a verdict says.
+#[derive(Clone, Copy, Debug, PartialEq, Eq)]
+enum Said {
+    Yes,
+    No,
+    Budget,
+}
+
+/// Searches a network, and has the scenario or the tree checked that comes with a yes or a no. Returns what is said and
+/// the number of splits.
+fn judge<C: Compose>(
+    rt: &impl Abort,
+    alloc: Global,
+    net: &Net,
+    c: &C,
+    class: &Class,
+    budget: u32,
+) -> Result<(Said, u32), Fail> {
+    assert!(rt; is_network(net, c) && has_bases(class, c) && budget <= MAX_BUDGET);
+    match solve(alloc, net, c, class, budget)? {
+        Verdict::Yes(scenario, tree) => {
+            assert!(rt; check_scenario(net, c, &scenario).is_ok());
+            Ok((Said::Yes, tree.splits()))
+        }
+        Verdict::No(tree) => {
+            assert!(rt; check_tree(alloc, net, c, &tree).is_ok());
+            Ok((Said::No, tree.splits()))
+        }
+        Verdict::Budget(tree) => Ok((Said::Budget, tree.splits())),
+    }
+}
+
+/// Both colours on each edge of five nodes, and of six.
+const FIVE: [u64; 10] = [A | B; 10];
+
+const SIX: [u64; 15] = [A | B; 15];
+
+/// Six nodes, where both colours of the edge from 0 to 5 make a triangle of one colour.
+const FAN: [u64; 15] = [A, B, A, B, 6, 6, 6, 6, 6, 6, 6, 6, 6, 6, 6];
+
+#[test]
+fn searches_end_as_they_are_ruled(rt: HostRuntime) -> Result<(), Fail> {
+    let alloc = rt.alloc();
+    let colours = ramsey(alloc)?;
+    let singles = none(alloc, 3)?;
+    // nodes, sets, budget, what is said and the number of splits
+    let rows: [(u32, &[u64], u32, Said, u32); 6] = [
+        (5, &FIVE, 1023, Said::Yes, 5),
+        (5, &FIVE, 4, Said::Budget, 4),
+        (6, &SIX, 19, Said::No, 19),
+        (6, &SIX, 18, Said::Budget, 18),
+        (6, &SIX, 0, Said::Budget, 0),
+        (6, &FAN, 1000, Said::No, 1),
+    ];
+    for (nodes, words, budget, said, splits) in rows {
+        let net = net_of(&rt, alloc, &colours, nodes, words)?;
+        let verdict = judge(&rt, alloc, &net, &colours, &singles, budget)?;
+        assert!(rt; verdict == (said, splits));
+    }
+    let regions = rcc8(alloc)?;
+    let class = h8(alloc)?;
+    let rows: [(u32, &[u64], u32, Said, u32); 4] = [
+        (2, &[TPP | TPPI], 1000, Said::Yes, 1),
+        (2, &[TPP | TPPI], 0, Said::Budget, 0),
+        (2, &[0], 1000, Said::No, 0),
+        (1, &[], 1000, Said::Yes, 0),
+    ];
+    for (nodes, words, budget, said, splits) in rows {
+        let net = net_of(&rt, alloc, &regions, nodes, words)?;
+        let verdict = judge(&rt, alloc, &net, &regions, &class, budget)?;
+        assert!(rt; verdict == (said, splits));
+    }
+    Ok(())
+}
+
+#[test]
+fn five_nodes_have_two_rings_of_one_colour_each(rt: HostRuntime) -> Result<(), Fail> {
+    let alloc = rt.alloc();
+    let colours = ramsey(alloc)?;
+    let singles = none(alloc, 3)?;
+    let net = net_of(&rt, alloc, &colours, 5, &FIVE)?;
+    assert!(rt; is_network(&net, &colours) && has_bases(&singles, &colours));
+    let verdict = solve(alloc, &net, &colours, &singles, 5)?;
+    let Verdict::Yes(scenario, tree) = verdict else {
+        assert!(rt; false);
+        return Ok(());
+    };
+    let bases: [u8; 10] = [1, 1, 2, 2, 2, 1, 2, 2, 1, 1];
+    assert!(rt; scenario.bases.as_slice() == bases.as_slice());
+    // the kind of each node, the greater node of its edge, and its children
+    let rows: [(Kind, u32, &[u32]); 11] = [
+        (Kind::Split, 1, &[1, 10]),
+        (Kind::Split, 2, &[2, 9]),
+        (Kind::Split, 3, &[3, 4]),
+        (Kind::Empty, 0, &[]),
+        (Kind::Split, 4, &[5, 6]),
+        (Kind::Empty, 0, &[]),
+        (Kind::Split, 3, &[7, 8]),
+        (Kind::Found, 0, &[]),
+        (Kind::Later, 0, &[]),
+        (Kind::Later, 0, &[]),
+        (Kind::Later, 0, &[]),
+    ];
+    assert_eq!(rt; tree.nodes.len(), rows.len());
+    for (node, (kind, j, children)) in tree.nodes.iter().zip(rows) {
+        assert!(rt; node.kind == kind && node.j == j);
+        assert!(rt; node.children.as_slice() == children);
+    }
+    Ok(())
+}
+
+/// So many of the last digits of a number to a base.
+fn digits(alloc: Global, number: u32, base: u32, count: u32) -> Result<Vec<u8>, Fail>
+    requires some { 0 < base }
+    requires few { base ≤ 256 }
+{
+    let mut digits = Vec::new(alloc);
+    let mut rest = number;
+    for _ in 0..count {
+        digits.push((rest % base) as u8)?;
+        rest /= base;
+    }
+    Ok(digits)
+}
+
+/// Whether one of so many lists of base relations is a scenario.
+fn has_scenario<C: Compose>(
+    alloc: Global,
+    net: &Net,
+    c: &C,
+    size: u32,
+    lists: u32,
+) -> Result<bool, Fail>
+    requires some { 0 < size }
+    requires few { size ≤ 64 }
+{
+    for number in 0..lists {
+        let bases = digits(alloc, number, size, net.edges())?;
+        if check_scenario(net, c, &Scenario { bases }).is_ok() {
+            return Ok(true);
+        }
+    }
+    Ok(false)
+}
+
+/// The network whose sets are the digits of a number, the greatest digit being the full set.
+fn net_of_number<C: Compose>(
+    rt: &impl Abort,
+    alloc: Global,
+    c: &C,
+    nodes: u32,
+    number: u32,
+) -> Result<Net, Fail> {
+    let full = c.full().word();
+    assert!(rt; 0 < full && full <= 255);
+    let mut net = Net::new(alloc, nodes, c.full())?;
+    let sets = digits(alloc, number, full as u32, net.edges())?;
+    for edge in 0..net.edges() {
+        assert!(rt; edge < net.edges() && (edge as usize) < sets.len());
+        net.set(edge, Rel::of(u64::from(sets[edge as usize]) + 1));
+    }
+    Ok(net)
+}
+
+#[test]
+fn searches_say_what_trying_each_list_says(rt: HostRuntime) -> Result<(), Fail> {
+    let alloc = rt.alloc();
+    let colours = ramsey(alloc)?;
+    let singles = none(alloc, 3)?;
+    for k in 0..60 {
+        let net = net_of_number(&rt, alloc, &colours, 4, k * 1961)?;
+        let (said, _) = judge(&rt, alloc, &net, &colours, &singles, 1000)?;
+        let has = has_scenario(alloc, &net, &colours, 3, 729)?;
+        assert!(rt; said == if has { Said::Yes } else { Said::No });
+    }
+    let regions = rcc8(alloc)?;
+    let class = h8(alloc)?;
+    for k in 0..40 {
+        let net = net_of_number(&rt, alloc, &regions, 3, k * 414_533)?;
+        let (said, _) = judge(&rt, alloc, &net, &regions, &class, 1000)?;
+        let has = has_scenario(alloc, &net, &regions, 8, 512)?;
+        assert!(rt; said == if has { Said::Yes } else { Said::No });
     }
     Ok(())
 }

@@ -39,7 +39,7 @@ returns-in_default g c =
     let ruled : IsVerdict m n c.args.class.now c.args.budget c.args.net.now.words (No tree) =
     subst (λ xs. IsVerdictOf t (No xs)) (sym c.into_tree.ensures) (no-of t held c.run.new.self.path.top h.0 going) in
     let few : length tree ≤ 64 * c.args.budget + 1 = omega (arith, nodes-few t held going.bound, ap length c.into_tree.ensures) in
-    let all = told m n c.args.class.now c.args.budget c.args.net.now.words c.size.ensures.calculus c.requires.network c.requires.bases (No tree) ruled few in
+    let all = told m n c.args.class.now c.args.budget c.args.net.now.words c.size.ensures.calculus c.requires.network c.requires.bases (No tree) ruled few c.requires.budget in
     record { ruled = all.ruled; is_true = all.is_true; splits = all.splits; nodes = all.nodes }
 
 pub returns-in-Found : goal.returns-in-Found
@@ -57,7 +57,7 @@ returns-in-Found g c =
     c.in_ok-stop.ensures.stop c.in-Some.is c.in_ok-close_all.ensures.stopped in
     let ruled : IsVerdict m n c.args.class.now c.args.budget c.args.net.now.words (Yes c.in-Found.scenario tree) =
     found-of t c.in-Some.stop closed h c.in_ok-close_all.ensures.closed tree c.into_tree-tree.ensures c.in-Found.scenario c.in-Found.is in
-    let all = told m n c.args.class.now c.args.budget c.args.net.now.words c.size.ensures.calculus c.requires.network c.requires.bases (Yes c.in-Found.scenario tree) ruled (stop-few t c.in-Some.stop closed h tree c.into_tree-tree.ensures) in
+    let all = told m n c.args.class.now c.args.budget c.args.net.now.words c.size.ensures.calculus c.requires.network c.requires.bases (Yes c.in-Found.scenario tree) ruled (stop-few t c.in-Some.stop closed h tree c.into_tree-tree.ensures) c.requires.budget in
     record { ruled = all.ruled; is_true = all.is_true; splits = all.splits; nodes = all.nodes }
 
 pub returns-in-Spent : goal.returns-in-Spent
@@ -75,5 +75,5 @@ returns-in-Spent g c =
     c.in_ok-stop.ensures.stop c.in-Some.is c.in_ok-close_all.ensures.stopped in
     let ruled : IsVerdict m n c.args.class.now c.args.budget c.args.net.now.words (Budget tree) =
     spent-of t c.in-Some.stop closed h c.in_ok-close_all.ensures.closed tree c.into_tree-tree.ensures c.in-Spent.is in
-    let all = told m n c.args.class.now c.args.budget c.args.net.now.words c.size.ensures.calculus c.requires.network c.requires.bases (Budget tree) ruled (stop-few t c.in-Some.stop closed h tree c.into_tree-tree.ensures) in
+    let all = told m n c.args.class.now c.args.budget c.args.net.now.words c.size.ensures.calculus c.requires.network c.requires.bases (Budget tree) ruled (stop-few t c.in-Some.stop closed h tree c.into_tree-tree.ensures) c.requires.budget in
     record { ruled = all.ruled; is_true = all.is_true; splits = all.splits; nodes = all.nodes }
