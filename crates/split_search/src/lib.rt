@@ -1,4 +1,4 @@
-//! Which edge a search for a scenario of a network splits, and what the tree of its splits says.
+//! Searches for scenarios of networks, and what the tree of a search's splits says.
 //!
 //! A search closes a network. Where a set became empty there is no scenario; where each edge has one base relation
 //! these are a scenario. Otherwise it splits the set of one edge into parts, and looks at the network with each part in
@@ -6,15 +6,16 @@
 //! split into which parts is ruled by a class:
 //!
 //! ```text
-//! match ruled_split(alloc, &closed, &c, &class)? {
-//!     Some((edge, parts)) => ..
-//!     None => ..                 // an empty set, or one base relation for each edge
+//! match solve(alloc, &net, &c, &class, 1000)? {
+//!     Verdict::Yes(scenario, tree) => .. // a scenario, after tree.splits() splits
+//!     Verdict::No(tree) => ..            // the tree refutes the network
+//!     Verdict::Budget(tree) => ..        // 1000 splits, and no end
 //! }
 //! ```
 //!
-//! So a network has one tree of splits and, with a budget of splits, one verdict. [`laws_of_ruled_trees`] says that it
-//! has one, and what a yes and a no tell of the network. The search that makes the tree isn't there yet; what its steps
-//! keep is defined and proved (`specs/Way.antt`).
+//! So a network has one tree of splits and, with a budget of splits, one verdict, which [`solve`] returns.
+//! [`laws_of_ruled_trees`] says that it has one, and what a yes and a no tell of the network; [`ruled_split`] is the
+//! split of one closed network by itself.
 #![tactic(auto)]
 
 mod choosing;

@@ -9,7 +9,7 @@ use calculus_builtin::rcc8;
 use calculus_table::{Calculus, Compose, Rel, TableFault};
 use closure_seq::close;
 use network_words::Net;
-use refutation::{Kind, check as check_tree};
+use refutation::check as check_tree;
 use scenario::{Scenario, check as check_scenario};
 use std::alloc::Global;
 use std::process::Abort;
@@ -232,42 +232,6 @@ fn searches_end_as_they_are_ruled(rt: HostRuntime) -> Result<(), Fail> {
         let net = net_of(&rt, alloc, &regions, nodes, words)?;
         let verdict = judge(&rt, alloc, &net, &regions, &class, budget)?;
         assert!(rt; verdict == (said, splits));
-    }
-    Ok(())
-}
-
-#[test]
-fn five_nodes_have_two_rings_of_one_colour_each(rt: HostRuntime) -> Result<(), Fail> {
-    let alloc = rt.alloc();
-    let colours = ramsey(alloc)?;
-    let singles = none(alloc, 3)?;
-    let net = net_of(&rt, alloc, &colours, 5, &FIVE)?;
-    assert!(rt; is_network(&net, &colours) && has_bases(&singles, &colours));
-    let verdict = solve(alloc, &net, &colours, &singles, 5)?;
-    let Verdict::Yes(scenario, tree) = verdict else {
-        assert!(rt; false);
-        return Ok(());
-    };
-    let bases: [u8; 10] = [1, 1, 2, 2, 2, 1, 2, 2, 1, 1];
-    assert!(rt; scenario.bases.as_slice() == bases.as_slice());
-    // the kind of each node, the greater node of its edge, and its children
-    let rows: [(Kind, u32, &[u32]); 11] = [
-        (Kind::Split, 1, &[1, 10]),
-        (Kind::Split, 2, &[2, 9]),
-        (Kind::Split, 3, &[3, 4]),
-        (Kind::Empty, 0, &[]),
-        (Kind::Split, 4, &[5, 6]),
-        (Kind::Empty, 0, &[]),
-        (Kind::Split, 3, &[7, 8]),
-        (Kind::Found, 0, &[]),
-        (Kind::Later, 0, &[]),
-        (Kind::Later, 0, &[]),
-        (Kind::Later, 0, &[]),
-    ];
-    assert_eq!(rt; tree.nodes.len(), rows.len());
-    for (node, (kind, j, children)) in tree.nodes.iter().zip(rows) {
-        assert!(rt; node.kind == kind && node.j == j);
-        assert!(rt; node.children.as_slice() == children);
     }
     Ok(())
 }
