@@ -14,7 +14,7 @@
 //! a tree of as many splits as the budget has 64 times as many nodes and one more at most. What it costs: the path
 //! keeps what its levels changed, so memory grows with the depth and with the tree, and no network is copied. A node
 //! costs what closing changes, and a look at the set of each edge (Nebel 1997; Dechter 2003).
-ghost use Rattle.std.specs.Prelude.{◌≡◌, ◌+◌, ◌-◌, ◌*◌, ◌^◌, ◌<◌, ◌≤◌, [], ◌∷◌, ◌++◌, All, Contains};
+ghost use Rattle.std.specs.Prelude.{◌≡◌, ◌+◌, ◌-◌, ◌^◌, ◌<◌, ◌≤◌, [], ◌∷◌, ◌++◌, All, Contains};
 ghost use Rattle.std.specs.Prelude.{IfOk, OnOk, MatchOption, length, set};
 ghost use Rattle.calculus_table.specs.Calculus.{EachBase};
 ghost use Rattle.network_words.specs.Network.{IsNetwork};
