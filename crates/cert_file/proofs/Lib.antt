@@ -1,0 +1,9 @@
+pub mod Lists
+pub mod Plain
+pub mod Members
+pub mod Lines
+pub mod Texts
+pub mod PlainCertificates
+pub mod ReadAgain
+pub mod ReadForms
+pub mod OneLine
