@@ -6,6 +6,10 @@ use Rattle.calculus_load.specs.TableFile.{table_of}
 use Rattle.calculus_load.proofs.Faults.{load-one, loaded-none}
 use Rattle.calculus_load.specs.declared.fault.LoadFault.{LoadFault}
 use Rattle.calculus_load.specs.declared.fault.LoadFault.TheVariants as load
+use Rattle.tract_classes.specs.ClassFile.{class_of}
+use Rattle.tract_classes.specs.declared.fault.ClassFault.{ClassFault}
+use Rattle.tract_classes.specs.declared.fault.ClassFault.TheVariants as class
+use Rattle.tract_classes.proofs.ClassAnswers.{class_fault_one, closed_class_none}
 use Rattle.network_words.specs.Network.{Network}
 use Rattle.network_file.specs.NetworkFile.{IsFileOf, read_network}
 use Rattle.network_file.specs.declared.fault.FileFault.{FileFault}
@@ -13,9 +17,9 @@ use Rattle.network_file.proofs.ReadAgain.{file_is_of_one}
 use Rattle.qsr_outside.specs.Documents.{Documents, document}
 use Rattle.qsr_top.specs.Stops.{Cause, refuses, is_long}
 use Rattle.qsr_top.specs.Parts.{Then, IsOne}
-use Rattle.qsr_top.specs.Numbers.{load_refusal, file_refusal}
-use Rattle.qsr_top.specs.Inputs.{BytesWithin, DocumentOf, TableOf, RefusesTable, CalculusOf, builtin_of, NetworkOf, RefusesNetwork, SourceNetwork}
-use Rattle.qsr_top.specs.Output.{CloseInput, IsProblem}
+use Rattle.qsr_top.specs.Numbers.{load_refusal, class_refusal, file_refusal}
+use Rattle.qsr_top.specs.Inputs.{BytesWithin, DocumentOf, TableOf, RefusesTable, CalculusOf, builtin_of, ClassFileOf, RefusesClass, ClassOf, builtin_class, Guided, IsGuided, CalculusAndClass, NetworkOf, RefusesNetwork, SourceNetwork}
+use Rattle.qsr_top.specs.Output.{CloseInput, IsProblem, SolveInput, IsSearchOf}
 use Rattle.qsr_top.specs.declared.statuses.Place.{Place}
 use Rattle.qsr_top.proofs.Parts.{Then-one}
 
@@ -82,6 +86,45 @@ calculus_once documents word (Some c) x y p q = p ∙ sym q
 pub CalculusOf-one : (documents : Documents) (word : List ℕ) → IsOne (CalculusOf documents word)
 CalculusOf-one documents word x y p q = calculus_once documents word (builtin_of word) x y p q
 
+-- ---- class files
+
+-- a fault that has a number isn't out of memory
+class_numbered : (f : ClassFault) (n : ℕ) (p : Place) → class_refusal f ≡ Some (n, p) → f ≡ class.Memory → ⊥
+class_numbered f n p a e = none_or_some n p (class_refusal f) (ap class_refusal e) a
+
+classes_refused : (c : NamedAlgebra) (bytes : List ℕ) (m n : ℕ) (p q : Place) → RefusesClass c bytes m p → RefusesClass c bytes n q → refuses m p ≡ refuses n q
+classes_refused c bytes m n p q h k =
+    let same = class_fault_one c bytes h.fault k.fault (class_numbered h.fault m p h.numbered) (class_numbered k.fault n q k.numbered) h.refused k.refused in
+    pair_of (class_refusal h.fault) (class_refusal k.fault) m n p q (ap class_refusal same) h.numbered k.numbered
+
+class_or_refused : (c : NamedAlgebra) (bytes class : List ℕ) (m : ℕ) (p : Place) → ClassFileOf c bytes (Ok class) → RefusesClass c bytes m p → ⊥
+class_or_refused c bytes class m p h k = class_numbered k.fault m p k.numbered (closed_class_none c bytes class k.fault h.0 h.1 k.refused)
+
+pub ClassFileOf-one : (c : NamedAlgebra) (bytes : List ℕ) → IsOne (ClassFileOf c bytes)
+ClassFileOf-one c bytes (Ok x) (Ok y) p q = ap Ok (ok_alike (class_of c.names bytes) x y p.0 q.0)
+ClassFileOf-one c bytes (Ok x) (Err (refuses number place)) p q = absurd (class_or_refused c bytes x number place p q)
+ClassFileOf-one c bytes (Ok x) (Err is_long) p q = absurd q
+ClassFileOf-one c bytes (Err (refuses number place)) (Ok y) p q = absurd (class_or_refused c bytes y number place q p)
+ClassFileOf-one c bytes (Err (refuses m p)) (Err (refuses n q)) h k = ap Err (classes_refused c bytes m n p q h k)
+ClassFileOf-one c bytes (Err (refuses number place)) (Err is_long) p q = absurd q
+ClassFileOf-one c bytes (Err is_long) y p q = absurd p
+
+class_once : (documents : Documents) (word : List ℕ) (c : NamedAlgebra) (o : Option (ℕ → List ℕ)) (x y : Result (List ℕ) Cause) →
+    MatchOption o (Then (DocumentOf documents word) (ClassFileOf c) x) (λ class. x ≡ Ok (class c.algebra.size)) →
+    MatchOption o (Then (DocumentOf documents word) (ClassFileOf c) y) (λ class. y ≡ Ok (class c.algebra.size)) → x ≡ y
+class_once documents word c None x y p q = Then-one (DocumentOf documents word) (ClassFileOf c) (DocumentOf-one documents word) (ClassFileOf-one c) x y p q
+class_once documents word c (Some class) x y p q = p ∙ sym q
+
+pub ClassOf-one : (documents : Documents) (word : List ℕ) (c : NamedAlgebra) → IsOne (ClassOf documents word c)
+ClassOf-one documents word c x y p q = class_once documents word c (builtin_class word) x y p q
+
+guided_once : (c : NamedAlgebra) (class : List ℕ) → IsOne (IsGuided c class)
+guided_once c class x y p q = p ∙ sym q
+
+pub CalculusAndClass-one : (documents : Documents) (calculus class : List ℕ) → IsOne (CalculusAndClass documents calculus class)
+CalculusAndClass-one documents calculus class = Then-one (CalculusOf documents calculus) _ (CalculusOf-one documents calculus)
+    (λ c. Then-one (ClassOf documents class c) _ (ClassOf-one documents class c) (λ k. guided_once c k))
+
 -- ---- network files
 
 networks_refused : (c : NamedAlgebra) (bytes : List ℕ) (m n : ℕ) (p q : Place) → RefusesNetwork c bytes m p → RefusesNetwork c bytes n q → refuses m p ≡ refuses n q
@@ -114,3 +157,12 @@ problem_once c net x y p q = p ∙ sym q
 pub CloseInput-one : (documents : Documents) (word bytes : List ℕ) → IsOne (CloseInput documents word bytes)
 CloseInput-one documents word bytes = Then-one (CalculusOf documents word) _ (CalculusOf-one documents word)
     (λ c. Then-one (SourceNetwork bytes c) _ (SourceNetwork-one bytes c) (λ net. problem_once c net))
+
+-- ---- the input of a search
+
+search_once : (g : Guided) (net : Network) → IsOne (IsSearchOf g net)
+search_once g net x y p q = p ∙ sym q
+
+pub SolveInput-one : (documents : Documents) (calculus class bytes : List ℕ) → IsOne (SolveInput documents calculus class bytes)
+SolveInput-one documents calculus class bytes = Then-one (CalculusAndClass documents calculus class) _ (CalculusAndClass-one documents calculus class)
+    (λ g. Then-one (SourceNetwork bytes g.calculus) _ (SourceNetwork-one bytes g.calculus) (λ net. search_once g net))

@@ -1,9 +1,10 @@
 -- Each input has a value or a cause, where the document that is named is there.
-use Rattle.std.proofs.Common.{◌≡◌, ℕ, Bool, true, false, cond, List, length, Option, None, Some, Result, Ok, Err, inl, inr, refl, subst, sym}
-use Rattle.std.specs.Prelude.{IfSome, IsSomeAnd, MatchOption, codes}
+use Rattle.std.proofs.Common.{◌≡◌, ◌≢◌, ℕ, Bool, true, false, not, ◌||◌, cond, List, [], ◌∷◌, ◌++◌, length, Option, None, Some, Result, Ok, Err, inl, inr, refl, subst, sym}
+use Rattle.std.specs.Prelude.{⊤, All, IsSomeAnd, MatchOption, codes, is_some}
 use Rattle.std.specs.Str.{bytes_eq}
-use Rattle.std.proofs.lemmas.Bool.{cases_lt}
-use Rattle.calculus_table.specs.Calculus.{NamedAlgebra, IsNamedCalculus}
+use Rattle.std.proofs.lemmas.Bool.{cases_lt, false≢true}
+use Rattle.std.proofs.lemmas.List.Elements.{All-head}
+use Rattle.calculus_table.specs.Calculus.{NamedAlgebra, IsCalculus, IsNamedCalculus, EachBase}
 use Rattle.calculus_table.specs.declared.calculus.TableFault.TheVariants as table
 use Rattle.calculus_builtin.specs.Rcc8.{rcc8_calculus}
 use Rattle.calculus_builtin.specs.Allen.{allen_calculus}
@@ -15,6 +16,13 @@ use Rattle.calculus_load.specs.Laws as load_laws
 use Rattle.calculus_load.specs.declared.fault.LoadFault.{LoadFault}
 use Rattle.calculus_load.specs.declared.fault.LoadFault.TheVariants as load
 use Rattle.calculus_load.proofs.Answered.{load-answered}
+use Rattle.tract_classes.specs.Class.{IsClass, HasBase}
+use Rattle.tract_classes.specs.BuiltIn.{h8, c8, q8, singles}
+use Rattle.tract_classes.specs.Laws as class_laws
+use Rattle.tract_classes.specs.declared.fault.ClassFault.{ClassFault}
+use Rattle.tract_classes.specs.declared.fault.ClassFault.TheVariants as class
+use Rattle.tract_classes.proofs.BuiltInClasses.{h8-class, c8-class, q8-class, have_bases, singles-class, singles_bases}
+use Rattle.tract_classes.proofs.ClassAnswers.{class_file_answer, class_of_text}
 use Rattle.network_words.specs.Network.{Network, IsNetwork}
 use Rattle.network_words.proofs.NetsOfFacts.{IsNetwork-from_facts}
 use Rattle.network_file.specs.NetworkFile.{IsFileOf}
@@ -24,12 +32,15 @@ use Rattle.network_file.specs.declared.fault.FileFault.TheVariants as file
 use Rattle.network_file.proofs.Answered.{file-answered}
 use Rattle.qsr_lex.specs.declared.TheConstants.{MAX_TEXT}
 use Rattle.qsr_outside.specs.Documents.{Documents, document}
+use Rattle.qsr_words.specs.Asked.{class_fits, is_rcc8_class}
 use Rattle.qsr_top.specs.Stops.{Cause, refuses, is_long}
 use Rattle.qsr_top.specs.Parts.{Then}
-use Rattle.qsr_top.specs.Numbers.{load_refusal, file_refusal}
-use Rattle.qsr_top.specs.Inputs.{BytesWithin, DocumentOf, TableOf, CalculusOf, builtin_of, NetworkOf, SourceNetwork}
-use Rattle.qsr_top.specs.Output.{CloseInput, Problem, IsProblem}
+use Rattle.qsr_top.specs.Numbers.{load_refusal, class_refusal, file_refusal}
+use Rattle.qsr_top.specs.Inputs.{BytesWithin, DocumentOf, TableOf, CalculusOf, ClassFileOf, ClassOf, Guided, IsGuided, CanGuide, CalculusAndClass, NetworkOf, SourceNetwork}
+use Rattle.qsr_top.specs.Told.{named_by_calculus, named_by_class}
+use Rattle.qsr_top.specs.Output.{CloseInput, Problem, IsProblem, SolveInput, Search, IsSearchOf}
 use Rattle.qsr_top.specs.declared.statuses.Place.{Place}
+use Rattle.qsr_top.proofs.Naming.{all_first, all_second}
 
 -- a part has a value, of which something is known, or a cause
 pub data There {A : Type 0} (P : Result A Cause → Type 0) (Known : A → Type 0) : Type 0 where
@@ -46,12 +57,17 @@ Then-there : {A B : Type 0} (P : Result A Cause → Type 0) (Q : A → Result B 
 Then-there P Q First Second (value a p known) more = second-there P Q Second a p (more a known)
 Then-there P Q First Second (stops c p) more = stops c (inl p)
 
+-- less is known of a value
+known-weaker : {A : Type 0} (P : Result A Cause → Type 0) (First Second : A → Type 0) → ((a : A) → First a → Second a) → There P First → There P Second
+known-weaker P First Second weaker (value a p known) = value a p (weaker a known)
+known-weaker P First Second weaker (stops c p) = stops c p
+
 -- ---- bytes and documents
 
-BytesWithin-there : (bytes : List ℕ) → There (BytesWithin bytes) (λ _. Unit {0})
+BytesWithin-there : (bytes : List ℕ) → There (BytesWithin bytes) (λ _. ⊤)
 BytesWithin-there bytes = elim (cases_lt MAX_TEXT (length bytes)) [ inl long ↦ stops is_long long | inr within ↦ value bytes (within, refl) tt ]
 
-bytes-there : (o : Option (List ℕ)) → IsSomeAnd o (λ _. Unit {0}) → There (λ result. IsSomeAnd o (λ bytes. BytesWithin bytes result)) (λ _. Unit {0})
+bytes-there : (o : Option (List ℕ)) → IsSomeAnd o (λ _. ⊤) → There (λ result. IsSomeAnd o (λ bytes. BytesWithin bytes result)) (λ _. ⊤)
 bytes-there None h = absurd h
 bytes-there (Some bytes) h = BytesWithin-there bytes
 
@@ -89,24 +105,116 @@ TableOf-there bytes = elim (load-answered bytes) [
   | inr f ↦ refused-table bytes f (load-numbered f.fault f.of_text)
 ]
 
-chosen-lawful : (a b c : Bool) → IfSome (cond a (Some rcc8_calculus) (cond b (Some allen_calculus) (cond c (Some point_calculus) None))) IsNamedCalculus
-chosen-lawful true b c = rcc8_lawful
-chosen-lawful false true c = allen_lawful
-chosen-lawful false false true = point_lawful
-chosen-lawful false false false = tt
+-- a lawful calculus, which is RCC-8 where its word is `rcc8`
+pub record IsOfWord (word : List ℕ) (c : NamedAlgebra) : Type 0 where
+  pub lawful : IsNamedCalculus c
+  pub rcc8 : bytes_eq word (codes "rcc8") ≡ true → c ≡ rcc8_calculus
 
-builtin-lawful : (word : List ℕ) → IfSome (builtin_of word) IsNamedCalculus
-builtin-lawful word = chosen-lawful (bytes_eq word (codes "rcc8")) (bytes_eq word (codes "allen")) (bytes_eq word (codes "point"))
+-- the documents of these names are there
+abbrev pub HasDocumentIn : Documents → List ℕ → Type 0
+HasDocumentIn documents name = IsSomeAnd (document documents name) (λ _. ⊤)
+
+abbrev pub AreThereIn : Documents → List (List ℕ) → Type 0
+AreThereIn documents names = All (HasDocumentIn documents) names
 
 module _ (documents : Documents) (word : List ℕ) where
-  calculus-there : (o : Option NamedAlgebra) → IfSome o IsNamedCalculus → MatchOption o (IsSomeAnd (document documents word) (λ _. Unit {0})) (λ _. Unit {0}) →
-      There (λ result. MatchOption o (Then (DocumentOf documents word) TableOf result) (λ c. result ≡ Ok c)) IsNamedCalculus
-  calculus-there None lawful there =
-      Then-there (DocumentOf documents word) TableOf (λ _. Unit {0}) IsNamedCalculus (bytes-there (document documents word) there) (λ bytes _. TableOf-there bytes)
-  calculus-there (Some c) lawful there = value c refl lawful
+  -- the calculus that is chosen by these tests of its word
+  abbrev chosen : (a b c : Bool) → Option NamedAlgebra
+  chosen a b c = cond a (Some rcc8_calculus) (cond b (Some allen_calculus) (cond c (Some point_calculus) None))
 
-  CalculusOf-there : MatchOption (builtin_of word) (IsSomeAnd (document documents word) (λ _. Unit {0})) (λ _. Unit {0}) → There (CalculusOf documents word) IsNamedCalculus
-  CalculusOf-there there = calculus-there (builtin_of word) (builtin-lawful word) there
+  record IsChosen (a : Bool) (c : NamedAlgebra) : Type 0 where
+    lawful : IsNamedCalculus c
+    rcc8 : a ≡ true → c ≡ rcc8_calculus
+
+  calculus-there : (a b c : Bool) → AreThereIn documents (cond (is_some (chosen a b c)) [] (word ∷ [])) →
+      There (λ result. MatchOption (chosen a b c) (Then (DocumentOf documents word) TableOf result) (λ c. result ≡ Ok c)) (IsChosen a)
+  calculus-there true b c there = value rcc8_calculus refl (record { lawful = rcc8_lawful; rcc8 = λ _. refl })
+  calculus-there false true c there = value allen_calculus refl (record { lawful = allen_lawful; rcc8 = λ e. absurd (false≢true e) })
+  calculus-there false false true there = value point_calculus refl (record { lawful = point_lawful; rcc8 = λ e. absurd (false≢true e) })
+  calculus-there false false false there =
+      Then-there (DocumentOf documents word) TableOf (λ _. ⊤) (IsChosen false) (bytes-there (document documents word) (All-head (HasDocumentIn documents) word [] there)) (λ bytes _.
+      known-weaker (TableOf bytes) IsNamedCalculus (IsChosen false) (λ c lawful. record { lawful = lawful; rcc8 = λ e. absurd (false≢true e) }) (TableOf-there bytes))
+
+  CalculusOf-there : AreThereIn documents (named_by_calculus word) → There (CalculusOf documents word) (IsOfWord word)
+  CalculusOf-there there =
+      known-weaker (CalculusOf documents word) (IsChosen (bytes_eq word (codes "rcc8"))) (IsOfWord word) (λ c k. record { lawful = k.lawful; rcc8 = k.rcc8 })
+      (calculus-there (bytes_eq word (codes "rcc8")) (bytes_eq word (codes "allen")) (bytes_eq word (codes "point")) there)
+
+-- ---- classes
+
+class-numbered : (f : ClassFault) → f ≢ class.Memory → HasNumber (class_refusal f)
+class-numbered class.Memory h = absurd (h refl)
+class-numbered (class.Syntax line) h = numbered _ _
+class-numbered (class.LacksBase r) h = numbered _ _
+class-numbered (class.NotClosed a b op) h = numbered _ _
+class-numbered (class.TooMany line) h = numbered _ _
+
+module _ (c : NamedAlgebra) where
+  abbrev pub IsGuideFor : List ℕ → Type 0
+  IsGuideFor class = CanGuide (record { calculus = c; class = class })
+
+  rcc8_guides : (class : List ℕ) → IsClass class → EachBase rcc8_calculus.algebra (HasBase class) → c ≡ rcc8_calculus → IsGuideFor class
+  rcc8_guides class is bases e = record { is_class = is; bases = subst (λ k. EachBase k.algebra (HasBase class)) (sym e) bases }
+
+  pub h8_guides : c ≡ rcc8_calculus → IsGuideFor h8
+  h8_guides e = rcc8_guides h8 h8-class have_bases.h8_bases e
+
+  pub c8_guides : c ≡ rcc8_calculus → IsGuideFor c8
+  c8_guides e = rcc8_guides c8 c8-class have_bases.c8_bases e
+
+  pub q8_guides : c ≡ rcc8_calculus → IsGuideFor q8
+  q8_guides e = rcc8_guides q8 q8-class have_bases.q8_bases e
+
+  pub none_guides : IsCalculus c.algebra → IsGuideFor (singles c.algebra.size)
+  none_guides lawful = record { is_class = singles-class c.algebra.size lawful.table.bounded; bases = λ r h. singles_bases c.algebra.size r h }
+
+module _ (c : NamedAlgebra) (lawful : IsNamedCalculus c) where
+  refused-class : (bytes : List ℕ) (f : class_laws.TextHasFault c bytes) → HasNumber (class_refusal f.fault) → There (ClassFileOf c bytes) (IsGuideFor c)
+  refused-class bytes f n = stops (refuses n.number n.place) (record { fault = f.fault; refused = f.is; numbered = n.is })
+
+  ClassFileOf-there : (bytes : List ℕ) → There (ClassFileOf c bytes) (IsGuideFor c)
+  ClassFileOf-there bytes = elim (class_file_answer c bytes lawful) [
+    | inl k ↦ value k.class (k.is_of_text, k.closed) (record { is_class = class_of_text c.names bytes k.class k.is_of_text; bases = k.closed.bases })
+    | inr f ↦ refused-class bytes f (class-numbered f.fault f.of_text)
+  ]
+
+  module _ (documents : Documents) (word : List ℕ) where
+    -- the class that is chosen by these tests of its word
+    abbrev class_chosen : (a b d e : Bool) → Option (ℕ → List ℕ)
+    class_chosen a b d e = cond a (Some (λ _. h8)) (cond b (Some (λ _. c8)) (cond d (Some (λ _. q8)) (cond e (Some singles) None)))
+
+    class-there : (a b d e : Bool) → ((a || b || d) ≡ true → c ≡ rcc8_calculus) → AreThereIn documents (cond (is_some (class_chosen a b d e)) [] (word ∷ [])) →
+        There (λ result. MatchOption (class_chosen a b d e) (Then (DocumentOf documents word) (ClassFileOf c) result) (λ k. result ≡ Ok (k c.algebra.size))) (IsGuideFor c)
+    class-there true b d e fits there = value h8 refl (h8_guides c (fits refl))
+    class-there false true d e fits there = value c8 refl (c8_guides c (fits refl))
+    class-there false false true e fits there = value q8 refl (q8_guides c (fits refl))
+    class-there false false false true fits there = value (singles c.algebra.size) refl (none_guides c lawful.lawful)
+    class-there false false false false fits there =
+        Then-there (DocumentOf documents word) (ClassFileOf c) (λ _. ⊤) (IsGuideFor c) (bytes-there (document documents word) (All-head (HasDocumentIn documents) word [] there)) (λ bytes _. ClassFileOf-there bytes)
+
+    ClassOf-there : (is_rcc8_class word ≡ true → c ≡ rcc8_calculus) → AreThereIn documents (named_by_class word) → There (ClassOf documents word c) (IsGuideFor c)
+    ClassOf-there fits there = class-there (bytes_eq word (codes "h8")) (bytes_eq word (codes "c8")) (bytes_eq word (codes "q8")) (bytes_eq word (codes "none")) fits there
+
+-- a class of RCC-8 that fits a calculus goes with RCC-8
+pub fits_rcc8 : (x y : Bool) → (x || not y) ≡ true → y ≡ true → x ≡ true
+fits_rcc8 true y h e = refl
+fits_rcc8 false true h e = h
+fits_rcc8 false false h e = absurd (false≢true e)
+
+-- a lawful calculus, and a class that can guide a search over it
+record IsGuide (g : Guided) : Type 0 where
+  lawful : IsNamedCalculus g.calculus
+  guides : CanGuide g
+
+CalculusAndClass-there : (documents : Documents) (calculus class : List ℕ) → class_fits calculus class ≡ true →
+    AreThereIn documents (named_by_calculus calculus ++ named_by_class class) → There (CalculusAndClass documents calculus class) IsGuide
+CalculusAndClass-there documents calculus class fits there =
+    Then-there (CalculusOf documents calculus) (λ c. Then (ClassOf documents class c) (IsGuided c)) (IsOfWord calculus) IsGuide
+    (CalculusOf-there documents calculus (all_first (HasDocumentIn documents) (named_by_calculus calculus) (named_by_class class) there)) (λ c known.
+    Then-there (ClassOf documents class c) (IsGuided c) (IsGuideFor c) IsGuide
+    (ClassOf-there c known.lawful documents class (λ e. known.rcc8 (fits_rcc8 (bytes_eq calculus (codes "rcc8")) (is_rcc8_class class) fits e))
+    (all_second (HasDocumentIn documents) (named_by_calculus calculus) (named_by_class class) there)) (λ k guides.
+    value (record { calculus = c; class = k }) refl (record { lawful = known.lawful; guides = guides })))
 
 -- ---- networks
 
@@ -140,7 +248,7 @@ NetworkOf-there c bytes = elim (file-answered c bytes) [
 
 SourceNetwork-there : (bytes : List ℕ) (c : NamedAlgebra) → There (SourceNetwork bytes c) (IsOver c)
 SourceNetwork-there bytes c =
-    Then-there (BytesWithin bytes) (NetworkOf c) (λ _. Unit {0}) (IsOver c) (BytesWithin-there bytes) (λ text _. NetworkOf-there c text)
+    Then-there (BytesWithin bytes) (NetworkOf c) (λ _. ⊤) (IsOver c) (BytesWithin-there bytes) (λ text _. NetworkOf-there c text)
 
 -- ---- closing
 
@@ -149,9 +257,24 @@ pub record IsSound (p : Problem) : Type 0 where
   pub lawful : IsNamedCalculus p.calculus
   pub over : IsOver p.calculus p.network
 
-pub CloseInput-there : (documents : Documents) (word bytes : List ℕ) →
-    MatchOption (builtin_of word) (IsSomeAnd (document documents word) (λ _. Unit {0})) (λ _. Unit {0}) → There (CloseInput documents word bytes) IsSound
+pub CloseInput-there : (documents : Documents) (word bytes : List ℕ) → AreThereIn documents (named_by_calculus word) → There (CloseInput documents word bytes) IsSound
 CloseInput-there documents word bytes there =
-    Then-there (CalculusOf documents word) (λ c. Then (SourceNetwork bytes c) (IsProblem c)) IsNamedCalculus IsSound (CalculusOf-there documents word there) (λ c lawful.
+    Then-there (CalculusOf documents word) (λ c. Then (SourceNetwork bytes c) (IsProblem c)) (IsOfWord word) IsSound (CalculusOf-there documents word there) (λ c known.
     Then-there (SourceNetwork bytes c) (IsProblem c) (IsOver c) IsSound (SourceNetwork-there bytes c) (λ net over.
-    value (record { calculus = c; network = net }) refl (record { lawful = lawful; over = over })))
+    value (record { calculus = c; network = net }) refl (record { lawful = known.lawful; over = over })))
+
+-- ---- searching
+
+-- a lawful calculus, a class that can guide a search over it, and a network over it
+pub record IsSoundSearch (s : Search) : Type 0 where
+  pub lawful : IsNamedCalculus s.guided.calculus
+  pub guides : CanGuide s.guided
+  pub over : IsOver s.guided.calculus s.network
+
+pub SolveInput-there : (documents : Documents) (calculus class bytes : List ℕ) → class_fits calculus class ≡ true →
+    AreThereIn documents (named_by_calculus calculus ++ named_by_class class) → There (SolveInput documents calculus class bytes) IsSoundSearch
+SolveInput-there documents calculus class bytes fits there =
+    Then-there (CalculusAndClass documents calculus class) (λ g. Then (SourceNetwork bytes g.calculus) (IsSearchOf g)) IsGuide IsSoundSearch
+    (CalculusAndClass-there documents calculus class fits there) (λ g known.
+    Then-there (SourceNetwork bytes g.calculus) (IsSearchOf g) (IsOver g.calculus) IsSoundSearch (SourceNetwork-there bytes g.calculus) (λ net over.
+    value (record { guided = g; network = net }) refl (record { lawful = known.lawful; guides = known.guides; over = over })))

@@ -1,6 +1,11 @@
 pub mod Parts
+pub mod Naming
 pub mod InputsOnce
+pub mod Verdicts
+pub mod Working
 pub mod OneOutput
 pub mod InputsThere
 pub mod SomeOutput
+pub mod Guides
 pub mod Answering
+pub mod Atomic

@@ -4,16 +4,17 @@ use Rattle.calculus_table.specs.Calculus.{NamedAlgebra}
 use Rattle.network_words.specs.Network.{Network}
 use Rattle.network_words.proofs.Networks.{IsClosure-unique}
 use Rattle.network_file.specs.NetworkText.{network_text}
+use Rattle.split_search.proofs.OneVerdict.{verdict_one}
 use Rattle.qsr_outside.specs.Documents.{Documents}
-use Rattle.qsr_words.specs.Asked.{Asked, close}
+use Rattle.qsr_words.specs.Asked.{Asked, close, solve}
 use Rattle.qsr_top.specs.Stops.{Cause, refuses, is_long}
 use Rattle.qsr_top.specs.Parts.{IsOne}
-use Rattle.qsr_top.specs.Output.{Output, OutputOf, Works, Problem, CloseInput, ClosesNetwork, IsClosureText, IsVerdict, refusal_text}
+use Rattle.qsr_top.specs.Output.{Output, OutputOf, Works, Problem, CloseInput, ClosesNetwork, Search, SolveInput, SolvesNetwork, verdict_text, verdict_status, IsClosureText, IsStatusOf, refusal_text}
 use Rattle.qsr_top.specs.declared.statuses.Place.{Place}
 use Rattle.qsr_top.specs.declared.statuses.Status.{Status}
 use Rattle.qsr_top.specs.declared.statuses.Status.TheVariants.{Done, No, Refused, Budget, NotAccepted, TooLong}
 use Rattle.qsr_top.proofs.Parts.{same_value, value_or_cause}
-use Rattle.qsr_top.proofs.InputsOnce.{CloseInput-one}
+use Rattle.qsr_top.proofs.InputsOnce.{CloseInput-one, SolveInput-one}
 
 -- the same text and the same status
 pub record IsSame (t u : List ℕ) (s r : Status) : Type 0 where
@@ -22,7 +23,7 @@ pub record IsSame (t u : List ℕ) (s r : Status) : Type 0 where
 
 -- ---- the verdict
 
-verdict_is_one : (closed : Network) (s r : Status) → IsVerdict closed s → IsVerdict closed r → s ≡ r
+verdict_is_one : (closed : Network) (s r : Status) → IsStatusOf closed s → IsStatusOf closed r → s ≡ r
 verdict_is_one closed Done Done h k = refl
 verdict_is_one closed No No h k = refl
 verdict_is_one closed Done No h k = absurd (h k)
@@ -43,7 +44,7 @@ module _ (c : NamedAlgebra) where
       let closed : p.closed ≡ q.closed = same_closed net p.closed q.closed t u p.closure_text q.closure_text in
       record {
         text = p.closure_text.text_is ∙ ap (network_text c) closed ∙ sym q.closure_text.text_is;
-        status = verdict_is_one q.closed s r (subst (λ x. IsVerdict x s) closed p.verdict) q.verdict;
+        status = verdict_is_one q.closed s r (subst (λ x. IsStatusOf x s) closed p.verdict) q.verdict;
       }
 
 -- ---- what a command makes of its input, by the three kinds of its output
@@ -98,11 +99,28 @@ module _ {A : Type 0} (Part : Result A Cause → Type 0) (Work : A → List ℕ 
 problems_once : WorksOnce {A = Problem} (λ p. ClosesNetwork p.calculus p.network)
 problems_once p t u s r h k = closes_once p.calculus p.network t u s r h k
 
+searches_once : (budget : ℕ) → WorksOnce {A = Search} (SolvesNetwork budget)
+searches_once budget p t u s r h k =
+    let c = p.guided.calculus in
+    let same = verdict_one c.algebra p.network.nodes p.guided.class budget p.network.words h.verdict k.verdict h.ruled k.ruled in
+    record {
+      text = h.text_is ∙ ap (verdict_text c p.network) same ∙ sym k.text_is;
+      status = h.status_is ∙ ap verdict_status same ∙ sym k.status_is;
+    }
+
+-- a command has one text and one status at most, where its input has one value or one cause and its work one outcome
+command_once : {A : Type 0} (Part : Result A Cause → Type 0) (Work : A → List ℕ → Status → Type 0) → IsOne Part → WorksOnce Work →
+    (t u : List ℕ) (s r : Status) → OutputOf Part Work t s → OutputOf Part Work u r → (t ≡ u) × (s ≡ r)
+command_once Part Work one once t u s r p q =
+    let same = kinds_once Part Work one once t u s r (kind_of Part Work t s p) (kind_of Part Work u r q) in
+    (same.text, same.status)
+
 pub output_once : (asked : Option Asked) (documents : Documents) (bytes t u : List ℕ) (s r : Status) →
     Output asked documents bytes t s → Output asked documents bytes u r → (t ≡ u) × (s ≡ r)
 output_once None documents bytes t u s r p q = (p.1 ∙ sym q.1, p.0 ∙ sym q.0)
 output_once (Some (close asked)) documents bytes t u s r p q =
-    let Part = CloseInput documents asked.calculus bytes in
-    let Work : Problem → List ℕ → Status → Type 0 = λ p. ClosesNetwork p.calculus p.network in
-    let same = kinds_once Part Work (CloseInput-one documents asked.calculus bytes) problems_once t u s r (kind_of Part Work t s p) (kind_of Part Work u r q) in
-    (same.text, same.status)
+    command_once (CloseInput documents asked.calculus bytes) (λ p. ClosesNetwork p.calculus p.network)
+    (CloseInput-one documents asked.calculus bytes) problems_once t u s r p q
+output_once (Some (solve asked)) documents bytes t u s r p q =
+    command_once (SolveInput documents asked.calculus asked.class bytes) (SolvesNetwork asked.budget)
+    (SolveInput-one documents asked.calculus asked.class bytes) (searches_once asked.budget) t u s r p q

@@ -2,7 +2,7 @@
 use Rattle.std.specs.Prelude.{Option, None, Some}
 use Rattle.qsr_outside.specs.declared.reading.ReadStop.{ReadStop}
 use Rattle.qsr_outside.specs.declared.reading.ReadStop.TheVariants as stop
-use Rattle.qsr_words.specs.Asked.{Asked, close}
+use Rattle.qsr_words.specs.Asked.{Asked, close, solve}
 use Rattle.qsr_top.specs.declared.statuses.Status.{Status}
 use Rattle.qsr_top.specs.declared.statuses.Status.TheVariants.{Done, No, Usage, ReadFault, WriteFault, Memory, Budget, NotAccepted, TooLong}
 
@@ -12,6 +12,12 @@ IsCloseEnd Usage = ⊥
 IsCloseEnd Budget = ⊥
 IsCloseEnd (NotAccepted number place) = ⊥
 IsCloseEnd status = Unit {0}
+
+-- the ends of the command that searches for a scenario
+abbrev pub IsSolveEnd : Status → Type 0
+IsSolveEnd Usage = ⊥
+IsSolveEnd (NotAccepted number place) = ⊥
+IsSolveEnd status = Unit {0}
 
 -- the ends where the words ask for nothing
 abbrev pub IsUsageEnd : Status → Type 0
@@ -24,6 +30,7 @@ IsUsageEnd status = ⊥
 abbrev pub MayEnd : Option Asked → Status → Type 0
 MayEnd None status = IsUsageEnd status
 MayEnd (Some (close asked)) status = IsCloseEnd status
+MayEnd (Some (solve asked)) status = IsSolveEnd status
 
 -- an input was too long; out of memory may come in its place
 abbrev pub IsTooLongOrMemory : Status → Type 0
@@ -35,6 +42,7 @@ IsTooLongOrMemory status = ⊥
 abbrev pub IsAnswered : Status → Type 0
 IsAnswered Done = Unit {0}
 IsAnswered No = Unit {0}
+IsAnswered Budget = Unit {0}
 IsAnswered status = ⊥
 
 -- the end of a run whose input was not read to its end

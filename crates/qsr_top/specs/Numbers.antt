@@ -4,6 +4,8 @@ use Rattle.calculus_table.specs.declared.calculus.TableFault.{TableFault}
 use Rattle.calculus_table.specs.declared.calculus.TableFault.TheVariants as table
 use Rattle.calculus_load.specs.declared.fault.LoadFault.{LoadFault}
 use Rattle.calculus_load.specs.declared.fault.LoadFault.TheVariants as load
+use Rattle.tract_classes.specs.declared.fault.ClassFault.{ClassFault}
+use Rattle.tract_classes.specs.declared.fault.ClassFault.TheVariants as class
 use Rattle.network_file.specs.declared.fault.FileFault.{FileFault}
 use Rattle.network_file.specs.declared.fault.FileFault.TheVariants as file
 use Rattle.qsr_top.specs.declared.statuses.Place.{Place}
@@ -41,6 +43,14 @@ load_refusal (load.Missing r s) = Some (11, missing_place r s)
 load_refusal (load.Twice line) = Some (12, place_of_one line)
 load_refusal (load.TooMany line) = Some (13, place_of_one line)
 load_refusal load.Memory = None
+
+-- of a class file: a line, a base relation, or two members and the number of the operation
+abbrev pub class_refusal : ClassFault → Option (ℕ × Place)
+class_refusal (class.Syntax line) = Some (21, place_of_one line)
+class_refusal (class.LacksBase r) = Some (22, place_of_one r)
+class_refusal (class.NotClosed a b op) = Some (23, place_of_three a b op)
+class_refusal (class.TooMany line) = Some (24, place_of_one line)
+class_refusal class.Memory = None
 
 -- of a network file: a line, or the number of lines where the end line is missing
 abbrev pub file_refusal : FileFault → Option (ℕ × Place)

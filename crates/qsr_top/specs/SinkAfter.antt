@@ -3,10 +3,10 @@ use Rattle.std.specs.Prelude.{◌≡◌, ℕ, List, Option, None, Some}
 use Rattle.std.specs.Io.KnownBytes.{Appends, Keeps}
 use Rattle.qsr_outside.specs.Documents.{Documents}
 use Rattle.qsr_outside.specs.Writing.{AppendsPart}
-use Rattle.qsr_words.specs.Asked.{Asked, close}
+use Rattle.qsr_words.specs.Asked.{Asked, close, solve}
 use Rattle.qsr_top.specs.Output.{Output, UsageOutput, refusal_text, usage_text}
 use Rattle.qsr_top.specs.declared.statuses.Status.{Status}
-use Rattle.qsr_top.specs.declared.statuses.Status.TheVariants.{Done, No, Usage, Refused, ReadFault, WriteFault, Memory, TooLong}
+use Rattle.qsr_top.specs.declared.statuses.Status.TheVariants.{Done, No, Usage, Refused, ReadFault, WriteFault, Memory, Budget, TooLong}
 
 -- the bytes held, where told, grew by a whole text that is permitted with this status
 pub record WritesOutput (asked : Option Asked) (documents : Documents) (bytes : List ℕ) (old new : Option (List ℕ)) (status : Status) : Type 0 where
@@ -45,13 +45,29 @@ IsCloseAnswer text No = Unit {0}
 IsCloseAnswer text (Refused number place) = text ≡ refusal_text number place
 IsCloseAnswer text status = ⊥
 
+-- the same, of an answer of a search
+abbrev pub IsSolveAnswer : List ℕ → Status → Type 0
+IsSolveAnswer text Done = Unit {0}
+IsSolveAnswer text No = Unit {0}
+IsSolveAnswer text Budget = Unit {0}
+IsSolveAnswer text (Refused number place) = text ≡ refusal_text number place
+IsSolveAnswer text status = ⊥
+
 -- an answer that is written whole, unless the sink fails
 abbrev pub IsWritten : Option Asked → List ℕ → Status → Type 0
 IsWritten None = UsageOutput
 IsWritten (Some (close asked)) = IsCloseAnswer
+IsWritten (Some (solve asked)) = IsSolveAnswer
 
 -- a verdict on a network
 abbrev pub IsVerdictStatus : Status → Type 0
 IsVerdictStatus Done = Unit {0}
 IsVerdictStatus No = Unit {0}
 IsVerdictStatus status = ⊥
+
+-- or the end of a search at its budget
+abbrev pub IsSearchStatus : Status → Type 0
+IsSearchStatus Done = Unit {0}
+IsSearchStatus No = Unit {0}
+IsSearchStatus Budget = Unit {0}
+IsSearchStatus status = ⊥

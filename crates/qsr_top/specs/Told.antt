@@ -1,42 +1,57 @@
 -- Of what a run's output is a function: only what its words ask for has to be told.
-use Rattle.std.specs.Prelude.{◌≡◌, ℕ, List, [], Bool, false, not, Option, None, Some, Err, is_some, IfSome, if◌then◌else◌}
+use Rattle.std.specs.Prelude.{◌≡◌, ℕ, ⊤, List, [], ◌∷◌, ◌++◌, All, Option, None, Some, Err, is_some, IfSome, if◌then◌else◌}
 use Rattle.std.specs.FinMap as map
 use Rattle.qsr_outside.specs.Documents.{Documents, HasDocument}
-use Rattle.qsr_words.specs.Asked.{Asked, close}
+use Rattle.qsr_words.specs.Asked.{Asked, close, solve}
 use Rattle.qsr_top.specs.Stops.{Cause}
-use Rattle.qsr_top.specs.Inputs.{builtin_of, CalculusOf}
+use Rattle.qsr_top.specs.Inputs.{builtin_of, builtin_class, CalculusOf, CalculusAndClass}
 
--- the documents, where the word for a calculus names one of them; else none is asked for
-abbrev pub told_for : List ℕ → Option Documents → Option Documents
-told_for word told = if is_some (builtin_of word) then Some map.empty else told
+-- the document that a word for a calculus names, where no calculus is built in under it; and one for a class
+abbrev pub named_by_calculus : List ℕ → List (List ℕ)
+named_by_calculus word = if is_some (builtin_of word) then [] else word ∷ []
 
--- the documents, where the words name one
+abbrev pub named_by_class : List ℕ → List (List ℕ)
+named_by_class word = if is_some (builtin_class word) then [] else word ∷ []
+
+-- the documents that the words name, in the order in which they are opened
+abbrev pub named_documents : Option Asked → List (List ℕ)
+named_documents None = []
+named_documents (Some (close asked)) = named_by_calculus asked.calculus
+named_documents (Some (solve asked)) = named_by_calculus asked.calculus ++ named_by_class asked.class
+
+-- the documents, where one is named; else none is asked for
+abbrev pub told_where : List (List ℕ) → Option Documents → Option Documents
+told_where [] told = Some map.empty
+told_where (name ∷ names) told = told
+
 abbrev pub told_documents : Option Asked → Option Documents → Option Documents
-told_documents None told = Some map.empty
-told_documents (Some (close asked)) told = told_for asked.calculus told
+told_documents asked told = told_where (named_documents asked) told
 
 -- the bytes of the source, where the command reads it
 abbrev pub told_source : Option Asked → Option (List ℕ) → Option (List ℕ)
 told_source None told = Some []
-told_source (Some (close asked)) told = told
+told_source (Some asked) told = told
 
 -- the fact of documents and bytes holds where both are told, as far as they are asked for
 abbrev pub WhereTold : Option Asked → Option Documents → Option (List ℕ) → (Documents → List ℕ → Type 0) → Type 0
 WhereTold asked documents left Fact =
     IfSome (told_documents asked documents) (λ shelf. IfSome (told_source asked left) (λ bytes. Fact shelf bytes))
 
--- the words name a document
-abbrev pub names_document : Option Asked → Bool
-names_document None = false
-names_document (Some (close asked)) = not (is_some (builtin_of asked.calculus))
+-- the documents of these names are there
+abbrev pub AreThere : List (List ℕ) → Option Documents → Type 0
+AreThere names told = All (λ name. HasDocument told name (λ _. ⊤)) names
 
--- where the document that the words name is there, no absent name was opened
+-- where the documents that the words name are there, no absent name was opened
 abbrev pub AbsentStays : Option Asked → Option Documents → ℕ → ℕ → Type 0
-AbsentStays None told old new = new ≡ old
-AbsentStays (Some (close asked)) told old new = HasDocument told asked.calculus (λ _. Unit {0}) → new ≡ old
+AbsentStays asked told old new = AreThere (named_documents asked) told → new ≡ old
 
--- where the calculus that the words name stops the command, the source is as it was
+-- what the command reads before its source stops it for this cause
+abbrev pub StopsBefore : Asked → Documents → Cause → Type 0
+StopsBefore (close asked) documents cause = CalculusOf documents asked.calculus (Err cause)
+StopsBefore (solve asked) documents cause = CalculusAndClass documents asked.calculus asked.class (Err cause)
+
+-- where that stops the command, the source is as it was
 abbrev pub SourceWaits : Option Asked → Option Documents → Type 0 → Type 0
 SourceWaits None told IsAsBefore = IsAsBefore
-SourceWaits (Some (close asked)) told IsAsBefore =
-    IfSome (told_for asked.calculus told) (λ documents. (cause : Cause) → CalculusOf documents asked.calculus (Err cause) → IsAsBefore)
+SourceWaits (Some asked) told IsAsBefore =
+    IfSome (told_documents (Some asked) told) (λ documents. (cause : Cause) → StopsBefore asked documents cause → IsAsBefore)

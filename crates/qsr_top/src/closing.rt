@@ -1,17 +1,15 @@
 //! The command `close`: the network of the source is closed, and its closure is written.
-ghost use Rattle.std.specs.Prelude.{◌≡◌, ◌⊎◌, ◌+◌, ◌<◌, ◌≤◌, ⊤, true, is_some, Some, IfOk, IfErr, OnOk, Ok};
+ghost use Rattle.std.specs.Prelude.{◌≡◌, ◌⊎◌, ◌+◌, ◌<◌, ◌≤◌, [], Some, IfOk, IfErr, OnOk, Ok};
 ghost use Rattle.std.specs.String.{string_bytes};
 ghost use Rattle.std.specs.Io.KnownBytes.{IsAtEnd};
 ghost use Rattle.network_words.specs.Network.{IsNetwork};
 ghost use Rattle.qsr_outside.specs.Counts.{Rose, RoseAbove};
-ghost use Rattle.qsr_outside.specs.Documents.{HasDocument};
 ghost use Rattle.qsr_words.specs.Asked.{close};
 ghost use Rattle.qsr_words.specs.Requests.{close_of, AreWorkers};
 ghost use Rattle.qsr_top.specs.Stops.{HasCause, IsTooLongStop};
-ghost use Rattle.qsr_top.specs.Inputs.{builtin_of};
-ghost use Rattle.qsr_top.specs.Output.{IsVerdict, ClosesNetwork, CloseInput, Works};
+ghost use Rattle.qsr_top.specs.Output.{IsStatusOf, ClosesNetwork, CloseInput, Works};
 ghost use Rattle.qsr_top.specs.SinkAfter.{IsVerdictStatus};
-ghost use Rattle.qsr_top.specs.Told.{WhereTold, SourceWaits};
+ghost use Rattle.qsr_top.specs.Told.{WhereTold, SourceWaits, AbsentStays, named_documents};
 
 use crate::answers::Answer;
 use crate::inputs::{calculus, network};
@@ -61,9 +59,9 @@ pub(crate) fn close_answer<R: Threads + Sync, F: Shelf, S: Source, G: Gate + Syn
     ensures source_faults { S.faults source.old ≤ S.faults source.new }
     ensures shelf_faults { F.faults shelf.old ≤ F.faults shelf.new }
     ensures documents_stay { F.documents shelf.new ≡ F.documents shelf.old }
-    ensures absent_openings_stay { HasDocument (F.documents shelf.old) (string_bytes request.now.calculus) (λ _. ⊤)
-        → F.absent_openings shelf.new ≡ F.absent_openings shelf.old }
-    ensures builtin_stays { is_some (builtin_of (string_bytes request.now.calculus)) ≡ true
+    ensures absent_openings_stay { AbsentStays (Some (close (close_of request.now)))
+        (F.documents shelf.old) (F.absent_openings shelf.old) (F.absent_openings shelf.new) }
+    ensures builtin_stays { named_documents (Some (close (close_of request.now))) ≡ []
         → shelf.new ≡ shelf.old }
     ensures source_waits { SourceWaits (Some (close (close_of request.now)))
         (F.documents shelf.old) (source.new ≡ source.old) }
@@ -100,7 +98,7 @@ fn closed_answer<R: Threads + Sync, G: Gate + Sync>(
 
 /// How a run ends that writes this closed network.
 fn verdict(net: &Net) -> Status
-    ensures verdict { IsVerdict net.now result }
+    ensures verdict { IsStatusOf net.now result }
     ensures status { IsVerdictStatus result }
 {
     if net.words().contains(&0) {

@@ -1,5 +1,5 @@
 //! The inputs of the commands: the calculus that a word names, and the network of the source.
-ghost use Rattle.std.specs.Prelude.{◌≡◌, ◌⊎◌, ◌+◌, ◌<◌, ◌≤◌, ⊤, true, length, is_some, IfSome, IfOk, IfErr, OnOk, Ok};
+ghost use Rattle.std.specs.Prelude.{◌≡◌, ◌⊎◌, ◌+◌, ◌<◌, ◌≤◌, ⊤, [], length, IfSome, IfOk, IfErr, OnOk, Ok};
 ghost use Rattle.std.specs.Io.KnownBytes.{IsAtEnd};
 ghost use Rattle.network_words.specs.Network.{IsNetwork};
 ghost use Rattle.qsr_outside.specs.Counts.{Rose, RoseAbove};
@@ -7,7 +7,7 @@ ghost use Rattle.qsr_outside.specs.Documents.{HasDocument};
 ghost use Rattle.qsr_top.specs.Stops.{HasCause, IsRefusalOrMemory, IsTooLongStop, stop_of_reading};
 ghost use Rattle.qsr_top.specs.Parts.{Then};
 ghost use Rattle.qsr_top.specs.Inputs.{CalculusOf, DocumentOf, NetworkOf, SourceNetwork, TableOf, builtin_of};
-ghost use Rattle.qsr_top.specs.Told.{told_for};
+ghost use Rattle.qsr_top.specs.Told.{told_where, named_by_calculus, AreThere};
 
 use crate::stops::{Stop, file_stop, load_stop};
 use calculus_builtin::{allen, point, rcc8};
@@ -19,9 +19,11 @@ use std::alloc::Global;
 
 /// The calculus of a word: one that is built in, or that of the table file of this name.
 pub(crate) fn calculus<F: Shelf>(alloc: Global, shelf: &mut F, word: &str) -> Result<Calculus, Stop>
-    ensures value { IfOk result (λ c. IfSome (told_for word.now (F.documents shelf.old))
+    ensures value { IfOk result (λ c.
+        IfSome (told_where (named_by_calculus word.now) (F.documents shelf.old))
         (λ documents. CalculusOf documents word.now (Ok c))) }
-    ensures cause { IfErr result (λ stop. IfSome (told_for word.now (F.documents shelf.old))
+    ensures cause { IfErr result (λ stop.
+        IfSome (told_where (named_by_calculus word.now) (F.documents shelf.old))
         (λ documents. HasCause (CalculusOf documents word.now) stop)) }
 
     ensures read_fault { result ≡ Err Stop.ReadFault
@@ -31,10 +33,11 @@ pub(crate) fn calculus<F: Shelf>(alloc: Global, shelf: &mut F, word: &str) -> Re
     ensures faults_are_told { (result ≡ Err Stop.ReadFault)
         ⊎ (F.faults shelf.new ≡ F.faults shelf.old) }
     ensures faults_never_fall { F.faults shelf.old ≤ F.faults shelf.new }
+    ensures given_never_falls { F.given shelf.old ≤ F.given shelf.new }
     ensures documents_stay { F.documents shelf.new ≡ F.documents shelf.old }
-    ensures absent_openings_stay { HasDocument (F.documents shelf.old) word.now (λ _. ⊤)
+    ensures absent_openings_stay { AreThere (named_by_calculus word.now) (F.documents shelf.old)
         → F.absent_openings shelf.new ≡ F.absent_openings shelf.old }
-    ensures builtin_stays { is_some (builtin_of word.now) ≡ true → shelf.new ≡ shelf.old }
+    ensures builtin_stays { named_by_calculus word.now ≡ [] → shelf.new ≡ shelf.old }
 {
     match builtin(alloc, word) {
         Ok(Some(calculus)) => Ok(calculus),
@@ -102,6 +105,7 @@ fn table<F: Shelf>(alloc: Global, shelf: &mut F, name: &str) -> Result<Calculus,
     ensures faults_are_told { (result ≡ Err Stop.ReadFault)
         ⊎ (F.faults shelf.new ≡ F.faults shelf.old) }
     ensures faults_never_fall { F.faults shelf.old ≤ F.faults shelf.new }
+    ensures given_never_falls { F.given shelf.old ≤ F.given shelf.new }
     ensures documents_stay { F.documents shelf.new ≡ F.documents shelf.old }
     ensures absent_openings_stay { HasDocument (F.documents shelf.old) name.now (λ _. ⊤)
         → F.absent_openings shelf.new ≡ F.absent_openings shelf.old }
@@ -141,7 +145,7 @@ fn network_of(alloc: Global, bytes: &[u8], calculus: &Calculus) -> Result<Net, S
 }
 
 /// The stop of a command whose input was not read to its end.
-fn stop_of_reading(stop: ReadStop) -> Stop
+pub(crate) fn stop_of_reading(stop: ReadStop) -> Stop
     ensures { result ≡ stop_of_reading stop }
 {
     match stop {

@@ -2,10 +2,12 @@
 #![tactic(auto)]
 
 mod answers;
+mod classes;
 mod closing;
 mod inputs;
 mod laws;
 mod running;
+mod solving;
 mod statuses;
 mod stops;
 #[cfg(test)]

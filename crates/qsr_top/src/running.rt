@@ -1,6 +1,6 @@
 //! The top call. It reads the words, lets the command make its answer whole, and only then writes it: so a fault of an
 //! input, or memory that runs out, writes nothing.
-ghost use Rattle.std.specs.Prelude.{◌≡◌, ◌⊎◌, ◌+◌, ◌<◌, ◌≤◌, [], None, false, IfOk, IfErr, map};
+ghost use Rattle.std.specs.Prelude.{◌≡◌, ◌⊎◌, ◌+◌, ◌<◌, ◌≤◌, [], None, IfOk, IfErr, map};
 ghost use Rattle.std.specs.Io.KnownBytes.{Appends, IsAtEnd};
 ghost use Rattle.std.specs.String.{string_bytes};
 ghost use Rattle.qsr_outside.specs.Counts.{Rose, RoseAbove};
@@ -11,10 +11,11 @@ ghost use Rattle.qsr_top.specs.Output.{Output, usage_text};
 ghost use Rattle.qsr_top.specs.Ends.{MayEnd, IsAnswered, IsTooLongOrMemory, end_of_stop};
 ghost use Rattle.qsr_top.specs.Spoken.{IsSpoken};
 ghost use Rattle.qsr_top.specs.SinkAfter.{LeavesInSink, LeavesByStatus, IsWritten};
-ghost use Rattle.qsr_top.specs.Told.{WhereTold, SourceWaits, AbsentStays, names_document};
+ghost use Rattle.qsr_top.specs.Told.{WhereTold, SourceWaits, AbsentStays, named_documents};
 
 use crate::answers::{Answer, refused, usage};
 use crate::closing::close_answer;
+use crate::solving::solve_answer;
 use crate::statuses::Status;
 use crate::stops::Stop;
 use calculus_table::Memory;
@@ -64,7 +65,7 @@ pub fn run<R: Threads + Sync, F: Shelf, S: Source, W: Sink, G: Gate + Sync>(
     // What stays, and what is read.
     ensures source_waits { SourceWaits (asked_by (map string_bytes words.now))
         (F.documents shelf.old) (source.new ≡ source.old) }
-    ensures shelf_stays { names_document (asked_by (map string_bytes words.now)) ≡ false
+    ensures shelf_stays { named_documents (asked_by (map string_bytes words.now)) ≡ []
         → shelf.new ≡ shelf.old }
     ensures ends { IsAnswered result → IsAtEnd (S.left source.new) }
     ensures documents_stay { F.documents shelf.new ≡ F.documents shelf.old }
@@ -115,7 +116,7 @@ fn answer<R: Threads + Sync, F: Shelf, S: Source, G: Gate + Sync>(
 
     ensures source_waits { SourceWaits (asked_by (map string_bytes words.now))
         (F.documents shelf.old) (source.new ≡ source.old) }
-    ensures shelf_stays { names_document (asked_by (map string_bytes words.now)) ≡ false
+    ensures shelf_stays { named_documents (asked_by (map string_bytes words.now)) ≡ []
         → shelf.new ≡ shelf.old }
     ensures documents_stay { F.documents shelf.new ≡ F.documents shelf.old }
     ensures absent_openings_stay { AbsentStays (asked_by (map string_bytes words.now))
@@ -128,6 +129,12 @@ fn answer<R: Threads + Sync, F: Shelf, S: Source, G: Gate + Sync>(
             spoken(
                 alloc,
                 close_answer(rt, alloc, &request, shelf, source, gate),
+            )
+        }
+        Ok(Request::Solve(request)) => {
+            spoken(
+                alloc,
+                solve_answer(rt, alloc, &request, shelf, source, gate),
             )
         }
         Ok(Request::Usage) => usage(alloc).map_err(|_| ReadStop::Memory),

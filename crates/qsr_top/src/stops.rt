@@ -1,13 +1,14 @@
 //! Why a command returns no answer, and the number with which each fault of an input is refused.
 ghost use Rattle.std.specs.Prelude.{◌≡◌};
-ghost use Rattle.qsr_top.specs.Numbers.{file_refusal, load_refusal, missing_place, place_of_one, place_of_three};
-ghost use Rattle.qsr_top.specs.Numbers.{table_refusal};
+ghost use Rattle.qsr_top.specs.Numbers.{class_refusal, file_refusal, load_refusal, table_refusal};
+ghost use Rattle.qsr_top.specs.Numbers.{missing_place, place_of_one, place_of_three};
 ghost use Rattle.qsr_top.specs.Stops.{stop_of};
 
 use crate::statuses::Place;
 use calculus_load::LoadFault;
 use calculus_table::TableFault;
 use network_file::FileFault;
+use tract_classes::ClassFault;
 
 /// Why a command returns no answer.
 #[derive(Clone, Copy, Debug, PartialEq, Eq)]
@@ -56,6 +57,19 @@ pub(crate) fn load_stop(fault: LoadFault) -> Stop
     }
 }
 
+/// The stop for a fault of a class file.
+pub(crate) fn class_stop(fault: ClassFault) -> Stop
+    ensures { result ≡ stop_of (class_refusal fault) }
+{
+    match fault {
+        ClassFault::Syntax { line } => refused_at(21, line),
+        ClassFault::LacksBase { r } => refused_at(22, r),
+        ClassFault::NotClosed { a, b, op } => refused_at_three(23, a, b, u64::from(op)),
+        ClassFault::TooMany { line } => refused_at(24, line),
+        ClassFault::Memory => Stop::Memory,
+    }
+}
+
 /// The stop for a fault of a table of numbers.
 fn table_stop(fault: TableFault) -> Stop
     ensures { result ≡ stop_of (table_refusal fault) }
@@ -64,8 +78,8 @@ fn table_stop(fault: TableFault) -> Stop
         TableFault::NameTwice { at } => refused_at(4, at),
         TableFault::NotInvolution { r } => refused_at(5, r),
         TableFault::IdentityLaw { r } => refused_at(6, r),
-        TableFault::ConverseLaw { r, s, t } => refused_at_three(7, r, s, t),
-        TableFault::CycleLaw { r, s, t } => refused_at_three(8, r, s, t),
+        TableFault::ConverseLaw { r, s, t } => refused_at_bases(7, r, s, t),
+        TableFault::CycleLaw { r, s, t } => refused_at_bases(8, r, s, t),
         TableFault::Memory => Stop::Memory,
     }
 }
@@ -80,18 +94,20 @@ fn refused_at(number: u32, at: u32) -> Stop
     }
 }
 
+/// A refusal at three base relations.
+fn refused_at_bases(number: u32, r: u32, s: u32, t: u32) -> Stop
+    ensures { result ≡ Stop.Refused number (place_of_three r s t) }
+{
+    refused_at_three(number, u64::from(r), u64::from(s), u64::from(t))
+}
+
 /// A refusal at a place of three numbers.
-fn refused_at_three(number: u32, a: u32, b: u32, c: u32) -> Stop
+fn refused_at_three(number: u32, a: u64, b: u64, c: u64) -> Stop
     ensures { result ≡ Stop.Refused number (place_of_three a b c) }
 {
     Stop::Refused {
         number,
-        place: Place {
-            count: 3,
-            a: u64::from(a),
-            b: u64::from(b),
-            c: u64::from(c),
-        },
+        place: Place { count: 3, a, b, c },
     }
 }
 

@@ -38,17 +38,19 @@ fn ran<R: Threads + Sync + AllocGlobal, G: Gate + Sync>(
     Ok((status, sink.bytes().to_vec(alloc)?))
 }
 
-/// Runs `close` over a shelf that has one document, `table`.
-fn closed_by_table<R: Threads + Sync + AllocGlobal>(
+/// Runs over a shelf with these documents, and returns the status and what was written.
+fn ran_over<R: Threads + Sync + AllocGlobal>(
     rt: &R,
-    table: &[u8],
-    name: &str,
+    words: &[&str],
+    documents: &[(&str, &[u8])],
     source: &[u8],
 ) -> Result<(Status, Vec<u8>), Fail> {
     let alloc = rt.alloc();
-    let words = owned(alloc, &["close", name])?;
+    let words = owned(alloc, words)?;
     let mut shelf = MapShelf::new(alloc, &[])?;
-    shelf.put("table", table)?;
+    for (name, bytes) in documents {
+        shelf.put(name, bytes)?;
+    }
     let mut source = BytesSource::new(alloc, source, 4096, &[])?;
     let mut sink = BytesSink::new(alloc, 4096, &[])?;
     sink.reserve(4096)?;
@@ -62,6 +64,16 @@ fn closed_by_table<R: Threads + Sync + AllocGlobal>(
         &NoGate,
     );
     Ok((status, sink.bytes().to_vec(alloc)?))
+}
+
+/// Runs `close` over a shelf that has one document, `table`.
+fn closed_by_table<R: Threads + Sync + AllocGlobal>(
+    rt: &R,
+    table: &[u8],
+    name: &str,
+    source: &[u8],
+) -> Result<(Status, Vec<u8>), Fail> {
+    ran_over(rt, &["close", name], &[("table", table)], source)
 }
 
 /// The status of a refusal at a place of one number.
@@ -199,6 +211,130 @@ fn an_absent_table_file_fails(rt: HostRuntime) -> Result<(), Fail> {
 }
 
 #[test]
+fn searches_write_their_verdicts(rt: HostRuntime) -> Result<(), Fail> {
+    let rows: [(&[&str], &[u8], &str, Status); 6] = [
+        (
+            &["solve", "rcc8"],
+            b"nodes 2\n0 1 ( TPP TPPi )\n.\n",
+            "yes 1\nnodes 2\n0 1 ( TPP )\n.\n",
+            Status::Done,
+        ),
+        (
+            &["solve", "rcc8", "--budget", "0"],
+            b"nodes 2\n0 1 ( TPP TPPi )\n.\n",
+            "budget 0\n",
+            Status::Budget,
+        ),
+        (
+            &["solve", "rcc8", "--class=none"],
+            b"nodes 2\nnames ( a b )\n0 1 ( EC PO )\n.\n",
+            "yes 1\nnodes 2\nnames ( a b )\n0 1 ( EC )\n.\n",
+            Status::Done,
+        ),
+        (
+            &["solve", "rcc8"],
+            b"nodes 2\n0 1 ( )\n.\n",
+            "no 0\n",
+            Status::No,
+        ),
+        (
+            &["solve", "point"],
+            b"nodes 1\n.\n",
+            "yes 0\nnodes 1\n.\n",
+            Status::Done,
+        ),
+        (
+            &["solve", "allen", "--class", "h8"],
+            b"nodes 1\n.\n",
+            "usage\n",
+            Status::Usage,
+        ),
+    ];
+    for (words, source, text, status) in rows.iter() {
+        let (ended, written) = ran(&rt, words, source, &[], &[], &NoGate)?;
+        assert_eq!(rt; ended, *status, "{words:?}");
+        assert_eq!(rt; written.as_slice(), text.as_bytes(), "{words:?}");
+    }
+    Ok(())
+}
+
+/// The network of so many nodes, of which each edge has the set.
+fn complete(alloc: Global, nodes: u32, set: &str) -> Result<String, Fail> {
+    let mut text = format!(in alloc; "nodes {nodes}\n")?;
+    for j in 1..nodes {
+        for i in 0..j {
+            write!(text, "{i} {j} {set}\n")?;
+        }
+    }
+    text.push_str(".\n")?;
+    Ok(text)
+}
+
+#[test]
+fn friends_and_strangers_are_found_up_to_five_guests(rt: HostRuntime) -> Result<(), Fail> {
+    // how many guests, the budget, and the answer; of six, three know each other or three don't (Ramsey 1930)
+    let five =
+        "yes 5\nnodes 5\n0 1 ( a )\n0 2 ( a )\n0 3 ( b )\n0 4 ( b )\n1 2 ( b )\n1 3 ( a )\n1 4 ( b )\n\
+                2 3 ( b )\n2 4 ( a )\n3 4 ( a )\n.\n";
+    let rows: [(u32, &str, &str, Status); 5] = [
+        (5, "1023", five, Status::Done),
+        (5, "4", "budget 4\n", Status::Budget),
+        (6, "19", "no 19\n", Status::No),
+        (6, "18", "budget 18\n", Status::Budget),
+        (6, "0", "budget 0\n", Status::Budget),
+    ];
+    for (nodes, budget, text, status) in rows.iter() {
+        let source = complete(rt.alloc(), *nodes, "( a b )")?;
+        for workers in ["1", "4", "64"].iter() {
+            let words = ["solve", "table", "--budget", *budget, "--workers", *workers];
+            let (ended, written) = ran_over(&rt, &words, &[("table", RAMSEY)], source.as_bytes())?;
+            assert_eq!(rt; ended, *status, "{words:?}");
+            assert_eq!(rt; written.as_slice(), text.as_bytes(), "{words:?}");
+        }
+    }
+    Ok(())
+}
+
+#[test]
+fn a_faulty_class_is_refused_before_the_source_is_read(rt: HostRuntime) -> Result<(), Fail> {
+    // the table file, the class file, and what is written
+    let rows: [(&[u8], &[u8], &str); 5] = [
+        (
+            RAMSEY,
+            b"( id )\n( a )\n( b )\n( id a )\n.\n",
+            "refused 23 2 2 3\n",
+        ),
+        (RAMSEY, b"( id )\n( x )\n.\n", "refused 21 2\n"),
+        (RAMSEY, b"( id )\n( a )\n.\n", "refused 22 2\n"),
+        (RAMSEY, b"", "refused 21 1\n"),
+        (b"", b"", "refused 9 1\n"),
+    ];
+    for (table, class, line) in rows.iter() {
+        let words = ["solve", "table", "--class", "class"];
+        let documents: [(&str, &[u8]); 2] = [("table", *table), ("class", *class)];
+        let (_, written) = ran_over(&rt, &words, &documents, b"no network")?;
+        assert_eq!(rt; written.as_slice(), line.as_bytes(), "{class:?}");
+    }
+    Ok(())
+}
+
+#[test]
+fn a_class_of_all_sets_splits_them_into_base_relations(rt: HostRuntime) -> Result<(), Fail> {
+    let class: &[u8] = b"( id )\n( a )\n( b )\n( id a )\n( id b )\n( a b )\n( id a b )\n.\n";
+    let source = complete(rt.alloc(), 6, "( a b )")?;
+    let words = ["solve", "table", "--class", "class"];
+    let documents: [(&str, &[u8]); 2] = [("table", RAMSEY), ("class", class)];
+    let (status, written) = ran_over(&rt, &words, &documents, source.as_bytes())?;
+    assert_eq!(rt; status, Status::No);
+    assert_eq!(rt; written.as_slice(), b"no 19\n".as_slice());
+    // without the class file
+    let (status, written) = ran_over(&rt, &words, &[("table", RAMSEY)], source.as_bytes())?;
+    assert_eq!(rt; status, Status::ReadFault);
+    assert_eq!(rt; written.len(), 0);
+    Ok(())
+}
+
+#[test]
 fn faulty_sources_are_refused_with_number_and_place(rt: HostRuntime) -> Result<(), Fail> {
     let rows: [(&[u8], &str, Status); 12] = [
         (b"", "refused 20 0\n", refused(20, 0)),
@@ -247,7 +383,7 @@ fn faulty_sources_are_refused_with_number_and_place(rt: HostRuntime) -> Result<(
 
 #[test]
 fn other_words_have_the_usage_line(rt: HostRuntime) -> Result<(), Fail> {
-    let wrong: [&[&str]; 8] = [
+    let wrong: [&[&str]; 10] = [
         &[],
         &["close"],
         &["close", "rcc8", "extra"],
@@ -255,6 +391,8 @@ fn other_words_have_the_usage_line(rt: HostRuntime) -> Result<(), Fail> {
         &["close", "rcc8", "--workers"],
         &["--workers", "2", "close", "rcc8"],
         &["close", "rcc8", "--workers="],
+        &["solve", "rcc8", "--budget", "10001"],
+        &["solve", "rcc8", "--budget", "5", "--budget", "6"],
         &["--help"],
     ];
     for words in wrong.iter() {
