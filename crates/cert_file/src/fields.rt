@@ -4,7 +4,8 @@ ghost use Rattle.std.specs.String.{string_bytes};
 ghost use Rattle.serde_json.specs.View.{view};
 ghost use Rattle.line_files.specs.Steps.{FailsExcept};
 ghost use Rattle.refutation.specs.Tree.{AreFewSteps};
-ghost use Rattle.cert_file.specs.Fields.{version_of, nodes_of, relations_of, claim_named, claim_of, scenario_of, tree_of};
+ghost use Rattle.cert_file.specs.Fields.{version_of, nodes_of, relations_of, claim_named, claim_of};
+ghost use Rattle.cert_file.specs.Fields.{scenario_of, tree_of};
 ghost use Rattle.cert_file.specs.declared.fault.Wrong.{Wrong};
 
 use crate::claim::{Claim, Version};

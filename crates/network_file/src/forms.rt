@@ -2,7 +2,8 @@
 //!
 //! A line's form is tested before anything else of it. A node's token is read once, as a number or a name; whether
 //! there is such a node is asked where the facts are read.
-ghost use Rattle.std.specs.Prelude.{◌≡◌, ◌-◌, ◌^◌, ◌∷◌, map, length, All, IfOk, IfSome, IsErrOf, MatchOption, Some, None};
+ghost use Rattle.std.specs.Prelude.{◌≡◌, ◌-◌, ◌^◌, ◌∷◌, map, length, All, IfOk, IfSome, IsErrOf};
+ghost use Rattle.std.specs.Prelude.{MatchOption, Some, None};
 ghost use Rattle.std.specs.Prelude.{true};
 ghost use Rattle.calculus_table.specs.Rel.{IsWithin};
 ghost use Rattle.qsr_lex.specs.Names.{is_name};

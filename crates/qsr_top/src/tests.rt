@@ -212,48 +212,38 @@ fn an_absent_table_file_fails(rt: HostRuntime) -> Result<(), Fail> {
 
 #[test]
 fn searches_write_their_verdicts(rt: HostRuntime) -> Result<(), Fail> {
-    let rows: [(&[&str], &[u8], &str, Status); 6] = [
+    // the words after `solve`, the fact of the two nodes, the text that is written, and how the run ends
+    let yes = "yes 1\nnodes 2\n0 1 ( TPP )\n.\n";
+    let rows: [(&[&str], &str, &str, Status); 6] = [
+        (&["rcc8"], "0 1 ( TPP TPPi )", yes, Status::Done),
         (
-            &["solve", "rcc8"],
-            b"nodes 2\n0 1 ( TPP TPPi )\n.\n",
-            "yes 1\nnodes 2\n0 1 ( TPP )\n.\n",
-            Status::Done,
-        ),
-        (
-            &["solve", "rcc8", "--budget", "0"],
-            b"nodes 2\n0 1 ( TPP TPPi )\n.\n",
+            &["rcc8", "--budget=0"],
+            "0 1 ( TPP TPPi )",
             "budget 0\n",
             Status::Budget,
         ),
         (
-            &["solve", "rcc8", "--class=none"],
-            b"nodes 2\nnames ( a b )\n0 1 ( EC PO )\n.\n",
-            "yes 1\nnodes 2\nnames ( a b )\n0 1 ( EC )\n.\n",
+            &["rcc8", "--class=none"],
+            "0 1 ( TPP EQ )",
+            yes,
             Status::Done,
         ),
+        (&["rcc8"], "0 1 ( )", "no 0\n", Status::No),
         (
-            &["solve", "rcc8"],
-            b"nodes 2\n0 1 ( )\n.\n",
-            "no 0\n",
-            Status::No,
-        ),
-        (
-            &["solve", "point"],
-            b"nodes 1\n.\n",
-            "yes 0\nnodes 1\n.\n",
+            &["point"],
+            "0 1 ( > )",
+            "yes 0\nnodes 2\n0 1 ( > )\n.\n",
             Status::Done,
         ),
-        (
-            &["solve", "allen", "--class", "h8"],
-            b"nodes 1\n.\n",
-            "usage\n",
-            Status::Usage,
-        ),
+        (&["allen", "--class", "h8"], "", "usage\n", Status::Usage),
     ];
-    for (words, source, text, status) in rows.iter() {
-        let (ended, written) = ran(&rt, words, source, &[], &[], &NoGate)?;
-        assert_eq!(rt; ended, *status, "{words:?}");
-        assert_eq!(rt; written.as_slice(), text.as_bytes(), "{words:?}");
+    for (rest, fact, text, status) in rows.iter() {
+        let source = format!(in rt.alloc(); "nodes 2\n{fact}\n.\n")?;
+        let mut words = vec![in rt.alloc(); "solve"; 1]?;
+        words.extend_from_slice(rest)?;
+        let (ended, written) = ran(&rt, &words, source.as_bytes(), &[], &[], &NoGate)?;
+        assert_eq!(rt; ended, *status, "{rest:?} {fact}");
+        assert_eq!(rt; written.as_slice(), text.as_bytes(), "{rest:?} {fact}");
     }
     Ok(())
 }

@@ -51,15 +51,14 @@ fn words_of_close_are_taken(rt: HostRuntime) -> Result<(), Fail> {
 #[test]
 fn words_of_solve_are_taken(rt: HostRuntime) -> Result<(), Fail> {
     let alloc = rt.alloc();
-    // the words after `solve`, the calculus, the class, the budget, and the number of workers; no calculus where the
-    // words aren't taken
-    let rows: [(&[&str], &str, &str, u32, u32); 14] = [
+    // the words after `solve`, the calculus, the class, the budget, and the number of workers
+    let rows: [(&[&str], &str, &str, u32, u32); 5] = [
         (&["rcc8"], "rcc8", "h8", 1000, 4),
         (&["allen"], "allen", "none", 1000, 4),
         (
-            &["towns.table", "--class", "own.class"],
-            "towns.table",
-            "own.class",
+            &["a.table", "--class", "a.class"],
+            "a.table",
+            "a.class",
             1000,
             4,
         ),
@@ -78,26 +77,37 @@ fn words_of_solve_are_taken(rt: HostRuntime) -> Result<(), Fail> {
             10_000,
             1,
         ),
-        (&["rcc8", "--budget", "10001"], "", "", 0, 0),
-        (&["rcc8", "--budget", "5", "--budget", "6"], "", "", 0, 0),
-        (&["allen", "--class", "h8"], "", "", 0, 0),
-        (&["point", "--class=c8"], "", "", 0, 0),
-        (&["towns.table", "--class=q8"], "", "", 0, 0),
-        (&["rcc8", "--class="], "", "", 0, 0),
-        (&["rcc8", "--budget="], "", "", 0, 0),
-        (&["rcc8", "--cert"], "", "", 0, 0),
-        (&[], "", "", 0, 0),
     ];
     for (rest, calculus, class, budget, workers) in rows.iter() {
-        match read(alloc, &owned(alloc, "solve", rest)?).map_err(|_| "memory")? {
-            Request::Solve(solve) => {
-                assert_eq!(rt; solve.calculus.as_str(), *calculus, "{rest:?}");
-                assert_eq!(rt; solve.class.as_str(), *class, "{rest:?}");
-                assert_eq!(rt; solve.budget, *budget, "{rest:?}");
-                assert_eq!(rt; solve.workers, *workers, "{rest:?}");
-            }
-            _ => assert_eq!(rt; "", *calculus, "{rest:?}"),
-        }
+        let request = read(alloc, &owned(alloc, "solve", rest)?).map_err(|_| "memory")?;
+        let Request::Solve(solve) = request else {
+            return Err(Fail::from("no search"));
+        };
+        assert_eq!(rt; solve.calculus.as_str(), *calculus, "{rest:?}");
+        assert_eq!(rt; solve.class.as_str(), *class, "{rest:?}");
+        assert_eq!(rt; solve.budget, *budget, "{rest:?}");
+        assert_eq!(rt; solve.workers, *workers, "{rest:?}");
+    }
+    Ok(())
+}
+
+#[test]
+fn other_words_ask_for_no_search(rt: HostRuntime) -> Result<(), Fail> {
+    let alloc = rt.alloc();
+    let rows: [&[&str]; 9] = [
+        &["rcc8", "--budget", "10001"],
+        &["rcc8", "--budget", "5", "--budget", "6"],
+        &["allen", "--class", "h8"],
+        &["point", "--class=c8"],
+        &["a.table", "--class=q8"],
+        &["rcc8", "--class="],
+        &["rcc8", "--budget="],
+        &["rcc8", "--cert"],
+        &[],
+    ];
+    for rest in rows.iter() {
+        let request = read(alloc, &owned(alloc, "solve", rest)?).map_err(|_| "memory")?;
+        assert!(rt; matches!(&request, Request::Usage), "{rest:?}");
     }
     Ok(())
 }

@@ -2,7 +2,8 @@
 //!
 //! The rule is that of a closed network by itself: the first edge whose set isn't in the class, and where there is
 //! none the first one whose set has more than one base relation. Each word is looked at once for either question.
-ghost use Rattle.std.specs.Prelude.{◌≡◌, ℕ, ◌<◌, ◌≤◌, All, Contains, IfOk, MatchOption, length, slice_index, count_ones};
+ghost use Rattle.std.specs.Prelude.{◌≡◌, ℕ, ◌<◌, ◌≤◌, All, Contains, IfOk, MatchOption, length};
+ghost use Rattle.std.specs.Prelude.{slice_index, count_ones};
 ghost use Rattle.network_words.specs.Edge.{edge_count};
 ghost use Rattle.network_words.specs.Scenario.{as_network};
 ghost use Rattle.tract_classes.specs.Class.{HasBasesOf};

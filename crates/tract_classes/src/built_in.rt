@@ -1,6 +1,7 @@
 //! The classes that are built in: three of RCC-8, by their rules, and the one of single base relations.
 ghost use Rattle.std.specs.Prelude.{◌≡◌, ℕ, ◌≤◌, Bool, IfOk};
-ghost use Rattle.tract_classes.specs.BuiltIn.{meets, is_np8, is_not_h8, is_not_c8, is_not_q8, is_in, members, h8, c8, q8, singles};
+ghost use Rattle.tract_classes.specs.BuiltIn.{meets, is_np8, is_not_h8, is_not_c8, is_not_q8};
+ghost use Rattle.tract_classes.specs.BuiltIn.{is_in, members, h8, c8, q8, singles};
 
 use crate::class::Class;
 use calculus_table::Memory;
