@@ -27,7 +27,7 @@ mod claim;
 mod entries;
 mod fault;
 mod fields;
-mod json;
+mod json_values;
 mod laws;
 mod nodes;
 mod reading;

@@ -15,7 +15,7 @@ ghost use Rattle.cert_file.specs.Written.{version_for, put_scenario};
 ghost use Rattle.cert_file.specs.Written.{is_swept, is_swept_node, version_number, certificate_json, certificate_text};
 
 use crate::claim::{Cert, Claim, Version};
-use crate::json::{ToJson, list_value};
+use crate::json_values::{ToJson, list_value};
 use calculus_table::Memory;
 use refutation::{Kind, Node, Steps};
 use scenario::Scenario;

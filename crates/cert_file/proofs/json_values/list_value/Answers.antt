@@ -3,7 +3,7 @@ use Rattle.std.proofs.lemmas.List.{map_push, take_more, take_all}
 use Rattle.serde_json.specs.Data.{array}
 use Rattle.serde_json.specs.View.{view, items_of}
 use Rattle.serde_json.proofs.Views.{view-Array}
-use Rattle.cert_file.proofs.json.list_value.Goals as goal
+use Rattle.cert_file.proofs.json_values.list_value.Goals as goal
 
 pub returns : goal.returns
 returns g c =
