@@ -1,10 +1,11 @@
 -- The forms of the lines of a table file.
-use Rattle.std.specs.Prelude.{ℕ, ◌-◌, ◌^◌, ◌<◌, List, [], ◌∷◌, Option, Some, None, IfSome, codes}
+use Rattle.std.specs.Prelude.{◌≡◌, ℕ, ◌-◌, ◌^◌, ◌<◌, length, List, [], ◌∷◌, Option, Some, None, IfSome, codes}
 use Rattle.qsr_lex.specs.Lexemes.{Lexeme}
 use Rattle.qsr_lex.specs.LineTokens.{name_at, names_at, after_kind, after_word, ◌>>=◌, at_end}
 use Rattle.qsr_lex.specs.declared.tokens.TokenKind.TheVariants.{Colon, Colons}
 use Rattle.calculus_table.specs.Rel.{IsWithin}
 use Rattle.calculus_table.specs.Names.{place_of}
+use Rattle.calculus_table.specs.declared.TheConstants.{MAX_BASES}
 use Rattle.named_sets.specs.Named.{set_at}
 use Rattle.calculus_load.specs.declared.statement.Statement.{Statement}
 use Rattle.calculus_load.specs.declared.statement.Statement.TheVariants.{Converse, Entry}
@@ -17,6 +18,12 @@ some_names (name ∷ names) = Some (name ∷ names)
 -- `names ( N1 N2 .. Nn )`
 abbrev pub names_line : List Lexeme → Option (List (List ℕ))
 names_line tokens = after_word (codes "names") tokens >>= λ rest. names_at rest >>= λ found. at_end found.0 found.1 >>= some_names
+
+-- these are more names than a calculus may have base relations
+pub record AreTooMany (found : Option (List (List ℕ))) : Type 0 where
+  pub names : List (List ℕ)
+  pub found_is : found ≡ Some names
+  pub more : MAX_BASES < length names
 
 -- `identity N`
 abbrev pub identity_line : List Lexeme → Option (List ℕ)

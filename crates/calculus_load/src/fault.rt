@@ -50,10 +50,12 @@ pub(crate) fn end_fault(end: TextEnd) -> LoadFault
 /// The fault of a line whose names can't be read.
 pub(crate) fn names_fault(line: u32, fault: NamesFault) -> LoadFault
     ensures form { fault ≡ NamesFault.Form → result ≡ LoadFault.Syntax line }
+    ensures many { fault ≡ NamesFault.TooMany → result ≡ LoadFault.TooMany line }
     ensures memory { fault ≡ NamesFault.Memory → result ≡ LoadFault.Memory }
 {
     match fault {
         NamesFault::Form => LoadFault::Syntax { line },
+        NamesFault::TooMany => LoadFault::TooMany { line },
         NamesFault::Memory => LoadFault::Memory,
     }
 }

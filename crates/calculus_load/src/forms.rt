@@ -6,31 +6,36 @@ ghost use Rattle.std.specs.Prelude.{true};
 ghost use Rattle.qsr_lex.specs.Names.{is_name};
 ghost use Rattle.calculus_table.specs.declared.TheConstants.{MAX_BASES};
 ghost use Rattle.calculus_load.specs.Statements.{names_line, identity_line, after_colons, after_colon, statement_line};
-ghost use Rattle.calculus_load.specs.Statements.{IsBoundedBy};
+ghost use Rattle.calculus_load.specs.Statements.{IsBoundedBy, AreTooMany};
 
 use crate::statement::Statement;
+use calculus_table::MAX_BASES;
 use named_sets::{BaseNames, read_set};
 use qsr_lex::{NamesFault, TokenKind, TokenReader};
 use std::alloc::Global;
 
-/// The names of a line `names ( N1 N2 .. Nn )`, of which there is at least one.
+/// The names of a line `names ( N1 N2 .. Nn )`, of which there is at least one, where a calculus may have so many base
+/// relations.
 pub(crate) fn names_form<'a>(
     alloc: Global,
     tokens: &mut TokenReader<'a>,
 ) -> Result<Vec<&'a [u8]>, NamesFault>
     ensures ok { IfOk result (λ names.
         names_line tokens.old ≡ Some (map (λ name. name.now) names.items)) }
+    ensures few { IfOk result (λ names. length names.items ≤ MAX_BASES) }
     ensures each { IfOk result (λ names. All (λ name. is_name name.now ≡ true) names.items) }
     ensures form { IsErrOf result NamesFault.Form → names_line tokens.old ≡ None }
+    ensures many { IsErrOf result NamesFault.TooMany → AreTooMany (names_line tokens.old) }
 {
     if !tokens.take_word(b"names") {
         return Err(NamesFault::Form);
     }
-    let names = tokens.names(alloc)?;
-    if names.is_empty() || !tokens.is_empty() {
-        return Err(NamesFault::Form);
+    match tokens.names(alloc, MAX_BASES as usize) {
+        Ok(names) if !names.is_empty() && tokens.is_empty() => Ok(names),
+        Err(NamesFault::TooMany) if tokens.is_empty() => Err(NamesFault::TooMany),
+        Err(NamesFault::Memory) => Err(NamesFault::Memory),
+        _ => Err(NamesFault::Form),
     }
-    Ok(names)
 }
 
 /// The name of a line `identity N`.

@@ -18,7 +18,7 @@ use crate::draft::Draft;
 use crate::fault::{LoadFault, end_fault, names_fault};
 use crate::forms::{identity_form, names_form, statement_form};
 use crate::names::first_repeat;
-use calculus_table::{Calculus, MAX_BASES, TableFault};
+use calculus_table::{Calculus, TableFault};
 use line_files::{FileLines, owned_names};
 use named_sets::BaseNames;
 use qsr_lex::TokenReader;
@@ -71,9 +71,6 @@ fn names_of_line<'a>(
         Ok(names) => names,
         Err(fault) => return Err(names_fault(line, fault)),
     };
-    if names.len() > MAX_BASES as usize {
-        return Err(LoadFault::TooMany { line });
-    }
     if let Some(at) = first_repeat(&names) {
         return Err(LoadFault::Table(TableFault::NameTwice { at: at as u32 }));
     }

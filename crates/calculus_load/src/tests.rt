@@ -158,14 +158,14 @@ fn a_text_that_lacks_lines_or_has_too_many_is_refused(rt: HostRuntime) {
     are_refused(&rt, rt.alloc(), &rows);
 }
 
-/// A table file of so many names and nothing else.
-fn names_line(alloc: Global, count: u32) -> Result<String, AllocError> {
+/// A table file of so many names and nothing else, with this after the names.
+fn names_line(alloc: Global, count: u32, end: &str) -> Result<String, AllocError> {
     let mut text = String::new(alloc);
     text.push_str("names ( ")?;
     for k in 0..count {
         write!(text, "n{k} ")?;
     }
-    text.push_str(")\nidentity n0\n.\n")?;
+    write!(text, ") {end}\nidentity n0\n.\n")?;
     Ok(text)
 }
 
@@ -183,12 +183,18 @@ fn long_name(alloc: Global, length: u32) -> Result<String, AllocError> {
 #[test]
 fn names_have_their_limits(rt: HostRuntime) -> Result<(), Fail> {
     let alloc = rt.alloc();
-    for (count, fault) in [(64, Missing { r: 0, s: None }), (65, TooMany { line: 1 })] {
-        let text = names_line(alloc, count)?;
+    // how many names, what stands after them, the fault
+    let rows = [
+        (64, "", Missing { r: 0, s: None }),
+        (65, "", TooMany { line: 1 }),
+        (65, "n65", Syntax { line: 1 }),
+    ];
+    for (count, end, fault) in rows {
+        let text = names_line(alloc, count, end)?;
         assert_eq!(rt;
             read_all(alloc, text.as_bytes()).err(),
             Some(fault),
-            "{count} names"
+            "{count} names {end}"
         );
     }
     for (length, fault) in [(64, Unknown { line: 2 }), (65, Syntax { line: 1 })] {

@@ -32,7 +32,7 @@ fn a_line_is_read_by_its_first_word(rt: HostRuntime) -> Result<(), Fail> {
     assert!(rt; lines.next_line_of(b"nodes").is_none());
     let mut line = lines.next_line_of(b"names").ok_or("a line")?;
     assert_eq!(rt; line.number, 2);
-    assert_eq!(rt; line.tokens.names(rt.alloc())?.len(), 1);
+    assert_eq!(rt; line.tokens.names(rt.alloc(), 1)?.len(), 1);
     let end = lines.next_line().ok_or("a line")?;
     assert!(rt; end.tokens.is_end_line());
     assert_eq!(rt; lines.extra_line(), Some(5));

@@ -1,2 +1,3 @@
 pub mod ReadSets
 pub mod WrittenSets
+pub mod KeptLines

@@ -1,5 +1,5 @@
 -- Sets that are read by the names of their members, and the names of a set's members.
-use Rattle.std.proofs.Common.{◌≡◌, ℕ, zero, suc, ◌+◌, ◌-◌, ◌^◌, ◌<◌, ◌≤◌, ◌==◌, Bool, true, false, cond, bit_or, List, [], ◌∷◌, ◌++◌, length, map, drop, get_or, slice_get, Option, Some, None, option_map, option_and_then, is_some, IfSome, ◌⊎◌, inl, inr, bytes_eq, refl, sym, ◌∙◌, ap, subst, arith, add-one, ne_eqb}
+use Rattle.std.proofs.Common.{◌≡◌, ℕ, zero, suc, ◌+◌, ◌-◌, ◌^◌, ◌<◌, ◌≤◌, ◌==◌, Bool, true, false, cond, bit_or, List, [], ◌∷◌, ◌++◌, length, slice_get, Option, Some, None, option_map, option_and_then, is_some, IfSome, ◌⊎◌, inl, inr, bytes_eq, refl, sym, ◌∙◌, ap, subst, arith, add-one, ne_eqb}
 use lib.Bits.{or_zero_r}
 use Rattle.std.specs.Int.{bit_at}
 use Rattle.std.specs.List.{list_all}

@@ -1,16 +1,21 @@
--- The lines of sets that a writer keeps.
-use Rattle.std.specs.Prelude.{◌≡◌, List, length, Option, IfSome, All}
-use Rattle.std.specs.String.{string_bytes}
+-- The lines of sets that a writer keeps, one after another in one text.
+use Rattle.std.specs.Prelude.{◌≡◌, ℕ, ◌≤◌, List, length, Option, IfSome, All, slice_range}
 use Rattle.calculus_table.specs.Calculus.{NamedAlgebra}
 use Rattle.named_sets.specs.Written.{set_line}
-use Rattle.named_sets.specs.declared.writing.TheConstants.{SLOTS}
-use Rattle.named_sets.specs.declared.writing.WrittenSet.{WrittenSet}
+use Rattle.named_sets.specs.declared.writing.TheConstants.{PLACES}
+use Rattle.named_sets.specs.declared.writing.KeptLine.{KeptLine}
 
--- what is kept at a place is the line of the set that is kept there
-abbrev pub IsLine : NamedAlgebra → Option WrittenSet → Type 0
-IsLine c place = IfSome place (λ w. string_bytes w.line ≡ set_line c w.set)
+-- where the line of a set is said to stand, it stands
+pub record IsKept (c : NamedAlgebra) (lines : List ℕ) (kept : KeptLine) : Type 0 where
+  pub order : kept.start ≤ kept.end
+  pub inside : kept.end ≤ length lines
+  pub line : slice_range lines kept.start kept.end ≡ set_line c kept.set
 
--- as many places as there may be, each of which has the line of its set
-pub record AreLines (c : NamedAlgebra) (kept : List (Option WrittenSet)) : Type 0 where
-  pub places : length kept ≡ SLOTS
-  pub each : All (IsLine c) kept
+-- a line is kept at this place, or none
+abbrev pub IsKeptThere : NamedAlgebra → List ℕ → Option KeptLine → Type 0
+IsKeptThere c lines place = IfSome place (IsKept c lines)
+
+-- as many places as there may be, and a line at each that says so
+pub record AreKept (c : NamedAlgebra) (lines : List ℕ) (places : List (Option KeptLine)) : Type 0 where
+  pub count : length places ≡ PLACES
+  pub each : All (IsKeptThere c lines) places

@@ -1,45 +1,53 @@
 //! Sets of base relations, written by the names of their members.
 //!
-//! A set's line is made once and kept: a set is hashed to one of `SLOTS` places, and where the line that is kept there
-//! is that of the set it is appended as it stands; else it is made anew and kept there. Texts of networks repeat few
-//! sets many times, so most lines cost one copy, however many members a set has.
-ghost use Rattle.std.specs.Prelude.{◌≡◌, ◌<◌, ◌++◌, length, replicate, codes, None, IfOk, OnOk, OnErr};
+//! A set's line is made once and kept: the lines that are kept stand one after another in one text, and a set is hashed
+//! to one of `PLACES` places, which says of which set a line is kept there and where it stands. Where that is another
+//! set, the line is made anew and takes the place over. Texts of networks repeat few sets many times, so most lines
+//! cost one copy, however many members a set has. No two sets of eight base relations meet at one place.
+ghost use Rattle.std.specs.Prelude.{◌≡◌, ◌<◌, ◌++◌, [], length, replicate, codes, None, IfOk, OnOk, OnErr};
 ghost use Rattle.std.specs.String.{string_bytes};
 ghost use Rattle.named_sets.specs.Written.{member_text, set_text, set_line};
+ghost use Rattle.named_sets.specs.Kept.{IsKept, AreKept};
 
 use calculus_table::{Calculus, Compose, Memory, Rel};
 use std::alloc::{AllocError, Global};
 use std::marker::Model;
 
-/// How many lines are kept. A prime, so that sets which differ in their high members alone are kept apart.
-const SLOTS: usize = 251;
+/// How many lines are kept.
+const PLACES: usize = 256;
 
-/// How many bytes a set's line seldom has more than, over a small calculus.
-const LINE_LEN: usize = 64;
+/// How many bytes the kept lines seldom have more than, over a small calculus.
+const LINES_LEN: usize = 4096;
 
-/// The line of a set.
-#[derive(Drop)]
-struct WrittenSet {
+/// From how many bytes on the kept lines are forgotten, so that lines which take over places don't take memory.
+const KEPT_LEN: usize = 65_536;
+
+/// The set whose line is kept, and where its line stands among the kept ones.
+#[derive(Clone, Copy)]
+struct KeptLine {
     set: Rel,
-    line: String,
+    start: usize,
+    end: usize,
 }
 
 /// Writes sets of base relations of one calculus.
 #[derive(Drop)]
 pub struct SetWriter<'a> {
     c: &'a Calculus,
-    kept: Vec<Option<WrittenSet>>,
+    lines: String,
+    places: Vec<Option<KeptLine>>,
 }
 
 impl<'a> Model for SetWriter<'a> {
+    ghost use Rattle.std.specs.String.{string_bytes};
     ghost use Rattle.calculus_table.specs.Calculus.{NamedAlgebra};
-    ghost use Rattle.named_sets.specs.Kept.{AreLines};
+    ghost use Rattle.named_sets.specs.Kept.{AreKept};
 
     ghost Value = { NamedAlgebra };
 
     ghost view = { λ w. w.c.now };
 
-    ghost invariant = { λ w. AreLines w.c.now w.kept.items };
+    ghost invariant = { λ w. AreKept w.c.now (string_bytes w.lines) w.places.items };
 }
 
 impl<'a> SetWriter<'a> {
@@ -47,10 +55,13 @@ impl<'a> SetWriter<'a> {
     pub fn new(alloc: Global, c: &'a Calculus) -> Result<SetWriter<'a>, Memory>
         ensures { IfOk result (λ writer. writer ≡ c.now) }
     {
-        let Ok(kept) = empty_places(alloc, SLOTS) else {
+        let Ok(lines) = String::with_capacity(alloc, LINES_LEN) else {
             return Err(Memory);
         };
-        Ok(SetWriter { c, kept })
+        let Ok(places) = empty_places(alloc) else {
+            return Err(Memory);
+        };
+        Ok(SetWriter { c, lines, places })
     }
 
     /// Appends a set and an LF: the names of its members in brackets, in the order of the calculus, one space between
@@ -60,17 +71,67 @@ impl<'a> SetWriter<'a> {
         ensures kept { OnErr result (string_bytes text.new ≡ string_bytes text.old) }
         ensures same { self.new ≡ self.old }
     {
-        let place = (set.word() % SLOTS as u64) as usize;
-        if let Some(written) = &self.kept[place]
-            && written.set.word() == set.word()
+        let place = place_of(set);
+        if let Some(kept) = &self.places[place]
+            && kept.set.word() == set.word()
         {
-            return append(text, &written.line);
+            return append(text, &self.lines[kept.start..kept.end]);
         }
-        let line = line_of(*self.kept.allocator(), self.c, set)?;
-        let appended = append(text, &line);
-        self.kept[place] = Some(WrittenSet { set, line });
-        appended
+        let kept = keep_line(&mut self.lines, &mut self.places, self.c, set)?;
+        let KeptLine { start, end, .. } = kept;
+        self.places[place] = Some(KeptLine { set, start, end });
+        append(text, &self.lines[start..end])
     }
+}
+
+/// The place of a set: the sum of its bytes, and what lower bytes carry over.
+#[inline(always)]
+fn place_of(set: Rel) -> usize
+    ensures { result < PLACES }
+{
+    (set.word().wrapping_mul(0x0101_0101_0101_0101) >> 56) as usize
+}
+
+/// Makes the line of a set after the lines that are kept. Where that fails nothing is kept.
+fn keep_line(
+    lines: &mut String,
+    places: &mut Vec<Option<KeptLine>>,
+    c: &Calculus,
+    set: Rel,
+) -> Result<KeptLine, Memory>
+    requires { AreKept c.now (string_bytes lines.old) places.old.items }
+    ensures line { IfOk result (λ kept. IsKept c.now (string_bytes lines.new) kept) }
+    ensures set { IfOk result (λ kept. kept.set ≡ set) }
+    ensures kept { AreKept c.now (string_bytes lines.new) places.new.items }
+{
+    if lines.len() >= KEPT_LEN {
+        forget(lines, places);
+    }
+    let start = lines.len();
+    let Ok(()) = push_set(lines, c, set) else {
+        forget(lines, places);
+        return Err(Memory);
+    };
+    let end = lines.len();
+    Ok(KeptLine { set, start, end })
+}
+
+/// Keeps no line.
+fn forget(lines: &mut String, places: &mut Vec<Option<KeptLine>>)
+    ensures lines { string_bytes lines.new ≡ [] }
+    ensures places { places.new.items ≡ replicate (length places.old.items) None }
+{
+    lines.clear();
+    places.fill(None);
+}
+
+/// As many places as there may be, at which no line is kept.
+fn empty_places(alloc: Global) -> Result<Vec<Option<KeptLine>>, AllocError>
+    ensures { IfOk result (λ places. places.items ≡ replicate 256 None) }
+{
+    let mut places = Vec::new(alloc);
+    places.resize(PLACES, None)?;
+    Ok(places)
 }
 
 /// Appends a text, or leaves the other as before.
@@ -80,30 +141,6 @@ fn append(text: &mut String, more: &str) -> Result<(), Memory>
 {
     match text.push_str(more) {
         Ok(()) => Ok(()),
-        Err(_) => Err(Memory),
-    }
-}
-
-/// `count` empty places.
-fn empty_places(alloc: Global, count: usize) -> Result<Vec<Option<WrittenSet>>, AllocError>
-    ensures { IfOk result (λ places. places.items ≡ replicate count None) }
-{
-    let mut places = Vec::new(alloc);
-    for _place in 0..count {
-        places.push(None)?;
-    }
-    Ok(places)
-}
-
-/// The line of a set.
-fn line_of(alloc: Global, c: &Calculus, set: Rel) -> Result<String, Memory>
-    ensures { IfOk result (λ line. string_bytes line ≡ set_line c.now set) }
-{
-    let Ok(mut line) = String::with_capacity(alloc, LINE_LEN) else {
-        return Err(Memory);
-    };
-    match push_set(&mut line, c, set) {
-        Ok(()) => Ok(line),
         Err(_) => Err(Memory),
     }
 }

@@ -48,10 +48,11 @@ pub(crate) fn end_fault(end: TextEnd) -> FileFault
 /// The fault of a line whose names can't be read.
 pub(crate) fn names_fault(line: u32, fault: NamesFault) -> FileFault
     ensures form { fault ≡ NamesFault.Form → result ≡ FileFault.Syntax line }
+    ensures many { fault ≡ NamesFault.TooMany → result ≡ FileFault.Syntax line }
     ensures memory { fault ≡ NamesFault.Memory → result ≡ FileFault.Memory }
 {
     match fault {
-        NamesFault::Form => FileFault::Syntax { line },
+        NamesFault::Form | NamesFault::TooMany => FileFault::Syntax { line },
         NamesFault::Memory => FileFault::Memory,
     }
 }

@@ -55,8 +55,9 @@ pub(crate) fn names_form<'a>(
         names_form count tokens.old ≡ Some (map (λ name. name.now) names.items)) }
     ensures each { IfOk result (λ names. All (λ name. is_name name.now ≡ true) names.items) }
     ensures form { IsErrOf result NamesFault.Form → names_form count tokens.old ≡ None }
+    ensures many { IsErrOf result NamesFault.TooMany → names_form count tokens.old ≡ None }
 {
-    let names = tokens.names(alloc)?;
+    let names = tokens.names(alloc, count as usize)?;
     if names.len() == count as usize && tokens.is_empty() {
         Ok(names)
     } else {

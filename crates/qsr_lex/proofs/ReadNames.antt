@@ -1,7 +1,8 @@
 -- How the names in brackets come off the front of a line.
-use Rattle.std.proofs.Common.{◌≡◌, ℕ, Bool, true, false, cond, List, [], ◌∷◌, ◌++◌, Option, Some, None, option_map, refl, sym, ap, ◌∙◌, append_assoc}
+use Rattle.std.proofs.Common.{◌≡◌, ℕ, Bool, true, false, cond, List, [], ◌∷◌, ◌++◌, Option, Some, None, option_map, refl, sym, ap, ◌∙◌, append_assoc, length, length-append, arith}
 use Rattle.qsr_lex.specs.Lexemes.{Lexeme}
-use Rattle.qsr_lex.specs.LineTokens.{after_kind, name_at, names_until_close, is_same_kind, is_name_token}
+use Rattle.qsr_lex.specs.LineTokens.{after_kind, name_at, names_at, names_until_close, is_same_kind, is_name_token}
+use Rattle.qsr_lex.specs.ManyNames.{AreClosedNames, AreMoreNames}
 use Rattle.qsr_lex.specs.declared.tokens.TokenKind.TheVariants.{Close}
 
 -- these names in front of those that are found
@@ -44,3 +45,12 @@ names-step front now name xs new all told open_set named pushed =
     ∙ sym (push_name front name (names_until_close new))
     ∙ ap (after_names front) (sym (names_until_close-name xs new name open_set named))
     ∙ told
+
+-- so many names, one more, and those after it
+pub names-many : (most : ℕ) (front : List (List ℕ)) (name : List ℕ) (old new after : List Lexeme) → length front ≡ most → after_names (front ++ name ∷ []) (names_until_close new) ≡ names_at old
+    → AreClosedNames new after → AreMoreNames most old after
+names-many most front name old new after full told rest = record {
+  names = (front ++ name ∷ []) ++ rest.names;
+  read = sym told ∙ ap (after_names (front ++ name ∷ [])) rest.read;
+  more = omega (arith, length-append (front ++ name ∷ []) rest.names, length-append front (name ∷ []));
+}

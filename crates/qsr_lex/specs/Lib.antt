@@ -6,5 +6,6 @@ pub mod Lexemes
 pub mod Tokens
 pub mod TokenLines
 pub mod LineTokens
+pub mod ManyNames
 pub mod Printed
 pub mod Stops

@@ -7,7 +7,7 @@
 //! ```text
 //! let mut tokens = TokenReader::new(b"names ( A B )");
 //! tokens.take_word(b"names");          // true
-//! tokens.names(alloc)?;                // A and B
+//! tokens.names(alloc, 2)?;             // A and B, and no more than 2
 //! tokens.is_empty();                   // true
 //! ```
 #![tactic(auto)]

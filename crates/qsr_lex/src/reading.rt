@@ -4,14 +4,15 @@
 //! passes over blanks, and takes the longest run of bytes that make one token. So a line takes no memory, each of its
 //! bytes is read once where the tokens are of the kind that is asked for, and a reader that gives up goes no further.
 //! Each token has a byte at least, so whoever takes tokens until none is left comes to the end.
-ghost use Rattle.std.specs.Prelude.{◌≡◌, ◌↔◌, [], ◌∷◌, None, Some, MatchOption, MatchBool, IsTrue, IfOk, IfSome, All};
+ghost use Rattle.std.specs.Prelude.{◌≡◌, ◌≢◌, ◌≤◌, ◌↔◌, [], ◌∷◌, length, None, Some, MatchOption, MatchBool, IsTrue, IfOk, IfSome, All};
 ghost use Rattle.std.specs.Prelude.{true, false, IsErrOf, map};
 ghost use Rattle.std.specs.List.{prefix_len};
 ghost use Rattle.qsr_lex.specs.Bytes.{is_blank};
 ghost use Rattle.qsr_lex.specs.Names.{is_name};
 ghost use Rattle.qsr_lex.specs.Lexemes.{lexemes, lexeme_with, starts_with_blank};
 ghost use Rattle.qsr_lex.specs.LineTokens.{word_at, name_at, names_at, after_kind, after_word, is_end_line};
-ghost use Rattle.qsr_lex.specs.LineTokens.{is_same_kind, is_name_token, is_word_token};
+ghost use Rattle.qsr_lex.specs.LineTokens.{is_same_kind, is_name_token, is_word_token, names_until_close};
+ghost use Rattle.qsr_lex.specs.ManyNames.{AreClosedNames, AreMoreNames};
 
 use crate::bytes::is_blank;
 use crate::names::is_name;
@@ -31,6 +32,8 @@ pub struct TokenReader<'a> {
 pub enum NamesFault {
     /// No names in brackets stand there.
     Form,
+    /// More names in brackets stand there than may.
+    TooMany,
     /// Out of memory.
     Memory,
 }
@@ -142,13 +145,16 @@ impl<'a> TokenReader<'a> {
         }
     }
 
-    /// Returns the names of a set of names in brackets and moves past it. After an error the reader
-    /// stands somewhere in the line.
-    pub fn names(&mut self, alloc: Global) -> Result<Vec<&'a [u8]>, NamesFault>
+    /// Returns the names of a set of names in brackets and moves past it, where they are at most so
+    /// many. More of them are moved past, but not listed, so that they take no memory. After another
+    /// error the reader stands somewhere in the line.
+    pub fn names(&mut self, alloc: Global, most: usize) -> Result<Vec<&'a [u8]>, NamesFault>
         ensures names { IfOk result (λ names.
             names_at self.old ≡ Some (map (λ name. name.now) names.items, self.new)) }
+        ensures few { IfOk result (λ names. length names.items ≤ most) }
         ensures each { IfOk result (λ names. All (λ name. is_name name.now ≡ true) names.items) }
         ensures form { IsErrOf result NamesFault.Form → names_at self.old ≡ None }
+        ensures many { IsErrOf result NamesFault.TooMany → AreMoreNames most self.old self.new }
     {
         if !self.take_kind(TokenKind::Open) {
             return Err(NamesFault::Form);
@@ -158,9 +164,26 @@ impl<'a> TokenReader<'a> {
             let Some(name) = self.name() else {
                 return Err(NamesFault::Form);
             };
+            if names.len() == most {
+                return Err(self.more_names());
+            }
             names.push(name).map_err(|_| NamesFault::Memory)?;
         }
         Ok(names)
+    }
+
+    /// Moves past names up to a closing bracket. Where they stand there they are too many.
+    fn more_names(&mut self) -> NamesFault
+        ensures form { result ≡ NamesFault.Form → names_until_close self.old ≡ None }
+        ensures many { result ≡ NamesFault.TooMany → AreClosedNames self.old self.new }
+        ensures taken { result ≢ NamesFault.Memory }
+    {
+        while !self.take_kind(TokenKind::Close) {
+            let Some(_) = self.name() else {
+                return NamesFault::Form;
+            };
+        }
+        NamesFault::TooMany
     }
 }
 

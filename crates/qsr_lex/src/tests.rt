@@ -126,15 +126,15 @@ fn a_line_is_read_token_by_token(rt: HostRuntime) -> Result<(), Fail> {
 #[test]
 fn names_in_brackets_are_read(rt: HostRuntime) -> Result<(), Fail> {
     let alloc = rt.alloc();
-    let mut tokens = TokenReader::new(b"( A A b ) ( ) ( 0 )");
-    let names = tokens.names(alloc)?;
+    let mut tokens = TokenReader::new(b"( A A b ) ( ) ( A B C ) ( A B 0 ) ( 0 )");
+    let names = tokens.names(alloc, 3)?;
     assert_eq!(rt; names.len(), 3);
     assert_eq!(rt; *names.last().ok_or("a name")?, b"b".as_slice());
-    assert!(rt; tokens.names(alloc)?.is_empty());
-    match tokens.names(alloc) {
-        Err(NamesFault::Form) => Ok(()),
-        _ => Err("0 is no name".into()),
+    assert!(rt; tokens.names(alloc, 0)?.is_empty());
+    for fault in [NamesFault::TooMany, NamesFault::Form, NamesFault::Form] {
+        assert_eq!(rt; tokens.names(alloc, 1).err(), Some(fault));
     }
+    Ok(())
 }
 
 #[test]

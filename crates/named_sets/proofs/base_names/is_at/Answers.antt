@@ -1,4 +1,4 @@
-use Rattle.std.proofs.Common.{◌<◌, length, map, sym, ap, ◌∙◌, Some, arith}
+use Rattle.std.proofs.Common.{◌<◌, length, sym, ap, ◌∙◌, Some, arith}
 use Rattle.std.specs.String.{string_bytes}
 use Rattle.std.proofs.lemmas.List.{length-map}
 use Rattle.calculus_table.proofs.PlacesOfNames.{name_read, equal_names}

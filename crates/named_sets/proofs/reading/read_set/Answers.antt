@@ -1,10 +1,9 @@
-use Rattle.std.proofs.Common.{◌≡◌, ◌∷◌, ◌-◌, ◌^◌, Some, None, IfSome, cond, true, length, ap, sym, ◌∙◌, subst, rules}
+use Rattle.std.proofs.Common.{◌≡◌, ◌∷◌, ◌-◌, ◌^◌, Some, None, IfSome, cond, length, ap, sym, ◌∙◌, subst}
 use Rattle.qsr_lex.specs.Names.{is_name}
 use Rattle.qsr_lex.specs.Lexemes.{lexeme_with}
 use Rattle.qsr_lex.specs.declared.tokens.TokenKind.TheVariants.{Word}
 use Rattle.calculus_table.specs.Names.{place_of}
 use Rattle.calculus_table.specs.Rel.{IsWithin}
-use Rattle.named_sets.specs.Named.{with_member}
 use Rattle.named_sets.proofs.ReadSets.{named-parts, with_members-word, with_member-within}
 use Rattle.named_sets.proofs.reading.read_set.Goals as goal
 

@@ -1,6 +1,5 @@
-use Rattle.std.proofs.Common.{◌≡◌, true, map, Some, None, cond, is_some, sym, ap, ◌∙◌, rules}
+use Rattle.std.proofs.Common.{◌≡◌, true, Some, None, cond, is_some, sym, ap, ◌∙◌, rules}
 use Rattle.std.specs.List.{list_all}
-use Rattle.std.specs.String.{string_bytes}
 use Rattle.std.proofs.lemmas.Grind.{common_steps}
 use Rattle.qsr_lex.specs.Names.{is_name}
 use Rattle.calculus_table.specs.Names.{place_of}
