@@ -16,21 +16,22 @@ use Rattle.closure_seq.proofs.Steps.{IsStep-trans}
 use Rattle.closure_seq.proofs.Settled.{IsSettledAt-step}
 
 -- a lane that is clear tells that its triple is closed, unless the set of (i, j) changed meanwhile
-pub settled-clear : (m : Algebra) (planes : ℕ) (work : Worklist) (set bytes : List ℕ) (i j from l a : ℕ) → IsReady m planes work → AreBytesOf work bytes → AreTablesOf m planes a set →
-    IsProperTriple work.nodes i j (from + l) → (¬ IsQueued work i j → a ≡ set_of work i j) →
-    IsWithinAlong set bytes planes (256 * i + from + l) (256 * j + from + l) → IsSettledAt m work i j (from + l)
-settled-clear m planes work set bytes i j from l a r b tables t set-is clear = λ quiet _.
+pub settled-clear : (m : Algebra) (planes : ℕ) (work : Worklist) (set bytes : List ℕ) (i j from here there l a : ℕ) → IsReady m planes work → AreBytesOf work bytes → AreTablesOf m planes a set →
+    here ≡ 256 * (planes * i) + from → there ≡ 256 * (planes * j) + from → IsProperTriple work.nodes i j (from + l) → (¬ IsQueued work i j → a ≡ set_of work i j) →
+    IsWithinAlong set bytes planes (here + l) (there + l) → IsSettledAt m work i j (from + l)
+settled-clear m planes work set bytes i j from here there l a r b tables here-is there-is t set-is clear = λ quiet _.
     let n = work.nodes in
     let k = from + l in
     let x = set_of work i k in
     let y = set_of work j k in
-    let at = λ (h p : ℕ) (hb : h < n) (pb : p < planes).
-    let e : 65536 * p + (256 * h + from + l) ≡ 65536 * p + (256 * h + k) = omega arith in
+    let at = λ (h place p : ℕ) (hb : h < n) (pb : p < planes) (place-is : place ≡ 256 * (planes * h) + from).
+    let row : 256 * (planes * h) ≡ 256 * (work.planes * h) = ap (λ q. 256 * (q * h)) (sym r.planes_are) in
+    let e : 256 * p + (place + l) ≡ 256 * (work.planes * h + p) + k = omega arith in
     let few : p < work.planes = omega (arith, r.planes_are) in
     ap (slice_index bytes) e ∙ b.each p h k few hb t.third_below in
     subst (λ z. IsWithin x (composition m z y)) (set-is quiet)
-    (within_along m planes a x y (256 * i + from + l) (256 * j + from + l) set bytes r.calculus.table tables (λ q qb. at j q t.second_below qb)
-    r.enough (r.sets.within i k (pair-outer n i j k t)) (λ p pb. at i p t.first_below pb) clear)
+    (within_along m planes a x y (here + l) (there + l) set bytes r.calculus.table tables (λ q qb. at j there q t.second_below qb there-is)
+    r.enough (r.sets.within i k (pair-outer n i j k t)) (λ p pb. at i here p t.first_below pb here-is) clear)
 
 -- ---- lanes one after another
 

@@ -30,11 +30,11 @@ pub record IsSized (work : Worklist) : Type 0 where
   pub sets_length : length work.sets ≡ 256 * work.nodes
   pub queued_length : length work.queued ≡ 256 * work.nodes
 
--- byte p of each set is at its place of plane p
+-- byte p of each set is at its place of plane p of its row
 pub record AreBytesOf (work : Worklist) (bytes : List ℕ) : Type 0 where
   pub most : work.planes ≤ 8
-  pub length_is : length bytes ≡ 524288
-  pub each : (p i k : ℕ) → p < work.planes → i < work.nodes → k < work.nodes → slice_index bytes (65536 * p + (256 * i + k)) ≡ byte (set_of work i k) p
+  pub length_is : length bytes ≡ 256 * (work.planes * work.nodes)
+  pub each : (p i k : ℕ) → p < work.planes → i < work.nodes → k < work.nodes → slice_index bytes (256 * (work.planes * i + p) + k) ≡ byte (set_of work i k) p
 
 -- the edge from i to j is queued
 pub record IsWaiting (work : Worklist) (i j : ℕ) : Type 0 where

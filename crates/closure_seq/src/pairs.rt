@@ -1,14 +1,18 @@
 //! The sets of all ordered pairs of nodes, and the queue of edges whose triples are to be looked at.
 //!
-//! A set is kept twice: as a word, and as bytes in planes, which `compose_fast::Tables` reads 16 at a time. The set
-//! of a pair with itself is that of the identity, which is within every composition of a set with its converse.
+//! A set is kept twice: as a word, and as bytes in planes, which `compose_fast::Tables` reads 16 at a time. The planes
+//! of a row lie one after another, so that few nodes take little room: as much is filled as the nodes and the planes
+//! need. The set of a pair with itself is that of the identity, which is within every composition of a set with its
+//! converse.
 //!
 //! An edge is queued where its mark says so. The order only proposes which of them comes next; where its proposal
 //! isn't queued, the first mark is taken.
 
+ghost use Rattle.std.specs.Prelude.{◌≡◌, ℕ, ◌+◌, ◌*◌, ◌<◌, ◌≤◌, slice_index};
+
 use crate::order::Order;
 use calculus_table::{Memory, Rel};
-use compose_fast::{filled, put_set};
+use compose_fast::{clear_to, filled, put_set, with_room};
 use std::alloc::Global;
 use std::marker::Model;
 
@@ -26,6 +30,7 @@ pub(crate) struct PairSets {
     nodes: u32,
     planes: usize,
     sets: Vec<Rel>,
+    are_empty: bool,
     bytes: Vec<u8>,
     queued: Vec<bool>,
     waiting: usize,
@@ -36,7 +41,7 @@ pub(crate) struct PairSets {
 }
 
 impl Model for PairSets {
-    ghost use Rattle.std.specs.Prelude.{◌≡◌, count_by};
+    ghost use Rattle.std.specs.Prelude.{◌≡◌, ℕ, ◌*◌, ◌≤◌, true, count_by, slice_index, vec_capacity};
     ghost use Rattle.closure_seq.specs.Worklist.{Worklist, IsSized, AreBytesOf};
 
     ghost Value = { Worklist };
@@ -48,7 +53,29 @@ impl Model for PairSets {
         × AreBytesOf
         (record { nodes = a.nodes; planes = a.planes; sets = a.sets.items; queued = a.queued.items })
         a.bytes.items
-        × (a.waiting ≡ count_by (λ b. b) a.queued.items) };
+        × (a.waiting ≡ count_by (λ b. b) a.queued.items)
+        × (2048 * a.nodes ≤ vec_capacity a.bytes)
+        × (a.are_empty ≡ true → (e : ℕ) → slice_index a.sets.items e ≡ 0) };
+}
+
+/// The place of the first byte of the set of `(i, k)` in `P` planes.
+#[inline(always)]
+pub(crate) fn byte_place<const P: usize>(i: u32, k: u32) -> usize
+    requires few { P ≤ 8 }
+    requires first { i < 256 }
+    requires second { k < 256 }
+    ensures { result ≡ 256 * (P * i) + k }
+{
+    256 * (P * i as usize) + k as usize
+}
+
+/// Makes every set empty.
+fn make_empty(sets: &mut [Rel])
+    ensures { (e : ℕ) → slice_index sets.new e ≡ 0 }
+{
+    for set in sets.iter_mut() {
+        *set = Rel::EMPTY;
+    }
 }
 
 impl PairSets {
@@ -66,13 +93,14 @@ impl PairSets {
         ensures { IfOk result (λ work. work.nodes ≡ nodes) }
     {
         let sets = filled(alloc, Rel::EMPTY, nodes as usize)?;
-        let bytes = filled(alloc, 0, 2048)?;
+        let bytes = with_room(alloc, 8 * nodes as usize)?;
         let queued = filled(alloc, false, nodes as usize)?;
         let order = Order::new(alloc, nodes)?;
         Ok(PairSets {
             nodes,
-            planes: 8,
+            planes: 0,
             sets,
+            are_empty: true,
             bytes,
             queued,
             waiting: 0,
@@ -157,11 +185,13 @@ impl PairSets {
         requires { planes ≤ 8 }
         ensures { self.new ≡ record self.old { planes = planes; sets = self.new.sets } }
     {
-        if self.planes < planes {
-            self.sets.fill(Rel::EMPTY);
-            self.bytes.fill(0);
+        if self.planes != planes {
+            if !self.are_empty {
+                make_empty(&mut self.sets);
+            }
+            clear_to(&mut self.bytes, planes * self.nodes as usize);
+            self.planes = planes;
         }
-        self.planes = planes;
     }
 
     /// Sets the set of the pair `(i, j)`.
@@ -176,7 +206,8 @@ impl PairSets {
         let _ = &self.nodes;
         let place = (256 * i + j) as usize;
         self.sets[place] = rel;
-        put_set::<P>(&mut self.bytes, place, rel);
+        self.are_empty = false;
+        put_set::<P>(&mut self.bytes, byte_place::<P>(i, j), rel);
     }
 
     /// Queues the edge between `i` and `j`, whose set has so many members.

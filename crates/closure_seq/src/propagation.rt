@@ -26,7 +26,7 @@ ghost use Rattle.closure_seq.specs.Propagation.{IsAmong, IsCharged, IsSettledAt,
 ghost use Rattle.closure_seq.specs.Propagation.{IsSettledBut};
 ghost use Rattle.std.specs.Prelude.{slice_set, true};
 
-use crate::pairs::PairSets;
+use crate::pairs::{PairSets, byte_place};
 use crate::span::{Span, charged_with};
 use calculus_table::{Compose, Rel};
 use compose_fast::{Tables, without};
@@ -204,8 +204,8 @@ fn propagate_block<C: Compose, const P: usize>(
 {
     let _nodes = work.nodes();
     let from = 16 * block;
-    let here = (256 * i + from) as usize;
-    let there = (256 * j + from) as usize;
+    let here = byte_place::<P>(i, from);
+    let there = byte_place::<P>(j, from);
     let gaps = Rel::of(tables.open_lanes::<P>(work.bytes(), here, there));
     if gaps.is_empty() {
         return Ok(());

@@ -28,7 +28,7 @@ byte-high y q =
     m ∙ ap (λ z. z % 16) (div-div-eq-div-mul y (2 ^ (8 * q)) 16 ∙ ap (λ z. y / z) (sym (pow-add 2 (8 * q) 4))) ∙ ap (λ k. y / 2 ^ k % 16) e
 
 module _ (m : Algebra) (planes a x y here there : ℕ) (set bytes : List ℕ) (table : IsTable m) (tables : AreTablesOf m planes a set)
-    (there-is : (q : ℕ) → q < planes → slice_index bytes (65536 * q + there) ≡ byte y q) where
+    (there-is : (q : ℕ) → q < planes → slice_index bytes (256 * q + there) ≡ byte y q) where
   -- what one place gives is in the composition
   looked : (p d h t : ℕ) → p < planes → d ≡ 16 * h + nibble y h → d < 32 * planes → t % 8 ≡ t - 8 * p → p ≡ t / 8 → Has (slice_index set (256 * p + d)) (t % 8) → Has (composition m a y) t
   looked p d h t pb de db te pe has =
@@ -38,7 +38,7 @@ module _ (m : Algebra) (planes a x y here there : ℕ) (set bytes : List ℕ) (t
       let within : IsWithin (bit_and (set_of_place d) (full_of m)) y = IsWithin-trans _ _ _ (IsWithin-meet_l (set_of_place d) (full_of m)) (subst (λ e. IsWithin (set_of_place e) y) (sym de) (nibble-within y h)) in
       (composition-mono m a (bit_and (set_of_place d) (full_of m)) a y table (IsWithin-refl a) within).each t (subst (Has (composition m a (bit_and (set_of_place d) (full_of m)))) at in-part)
 
-  pub within_along : m.size ≤ 8 * planes → IsWithin x (full_of m) → ((p : ℕ) → p < planes → slice_index bytes (65536 * p + here) ≡ byte x p) → IsWithinAlong set bytes planes here there → IsWithin x (composition m a y)
+  pub within_along : m.size ≤ 8 * planes → IsWithin x (full_of m) → ((p : ℕ) → p < planes → slice_index bytes (256 * p + here) ≡ byte x p) → IsWithinAlong set bytes planes here there → IsWithin x (composition m a y)
   within_along few xw here-is along = record {
     each = λ t h.
         let p = t / 8 in
@@ -46,10 +46,10 @@ module _ (m : Algebra) (planes a x y here there : ℕ) (set bytes : List ℕ) (t
         let pb : t / 8 < planes = omega arith in
         let at : 8 * (t / 8) + t % 8 ≡ t = omega arith in
         let te : t % 8 ≡ t - 8 * (t / 8) = omega arith in
-        let in-byte : Has (slice_index bytes (65536 * p + here)) (t % 8) =
+        let in-byte : Has (slice_index bytes (256 * p + here)) (t % 8) =
         subst (λ z. Has z (t % 8)) (sym (here-is p pb)) (bit_at-byte x p (t % 8) (omega arith) ∙ subst (λ s. bit_at x s ≡ 1) (sym at) h) in
         let in-along : Has (along_at set bytes planes p there) (t % 8) = Has-meet_r _ _ (t % 8) (subst (λ z. Has z (t % 8)) (sym (along p pb)) in-byte) in
-        let u : InUnion planes (λ q. looked_up set p q (slice_index bytes (65536 * q + there))) (t % 8) = union_below-member planes (λ q. looked_up set p q (slice_index bytes (65536 * q + there))) (t % 8) in-along in
+        let u : InUnion planes (λ q. looked_up set p q (slice_index bytes (256 * q + there))) (t % 8) = union_below-member planes (λ q. looked_up set p q (slice_index bytes (256 * q + there))) (t % 8) in-along in
         let q = u.at in
         let byte-is = there-is q u.below in
         let two = subst (λ z. Has (looked_up set p q z) (t % 8)) byte-is u.member in

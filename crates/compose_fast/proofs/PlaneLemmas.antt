@@ -14,14 +14,14 @@ no-planes set bytes p at = record { long = refl; each = λ k l. get_or-replicate
 
 pub plane-step : (set bytes all low high v al res : List ℕ) (p q n at : ℕ) → n ≡ suc q → ((e : ℕ) → Fits w8 (get_or bytes e 0)) →
     HasLanes 16 all (λ k. along_at set bytes q p (at + k)) → HasLanes 16 low (λ k. get_or set (256 * p + 32 * q + k) 0) → HasLanes 16 high (λ k. get_or set (256 * p + 32 * q + 16 + k) 0) →
-    HasLanes 16 v (λ k. get_or bytes (65536 * q + at + k) 0) → HasLanes 16 al (λ k. by_nibbles low high (get_or v k 0)) → HasLanes 16 res (λ k. bit_or (get_or all k 0) (get_or al k 0)) →
+    HasLanes 16 v (λ k. get_or bytes (256 * q + at + k) 0) → HasLanes 16 al (λ k. by_nibbles low high (get_or v k 0)) → HasLanes 16 res (λ k. bit_or (get_or all k 0) (get_or al k 0)) →
     HasLanes 16 res (λ k. along_at set bytes n p (at + k))
 unfolding union_below
 plane-step set bytes all low high v al res p q n at e fits a l h w x r = rw e (record {
   long = r.long;
   each = λ k b.
-      let y = get_or bytes (65536 * q + (at + k)) 0 in
-      let small = (fits (65536 * q + (at + k))).fits in
+      let y = get_or bytes (256 * q + (at + k)) 0 in
+      let small = (fits (256 * q + (at + k))).fits in
       let read : get_or v k 0 ≡ y = w.each k b ∙ ap (λ i. get_or bytes i 0) (omega arith) in
       let one : get_or low (y % 16) 0 ≡ get_or set (256 * p + 32 * q + y % 16) 0 = l.each (y % 16) (omega arith) in
       let two : get_or high (y / 16) 0 ≡ get_or set (256 * p + 32 * q + 16 + y / 16) 0 = h.each (y / 16) (omega arith) in

@@ -1,4 +1,4 @@
--- Sets in planes: byte k of plane p holds members 8 p .. 8 p + 7 of the set at place k. A plane has 65536 bytes.
+-- Sets in planes: the byte at 256 p + k holds members 8 p .. 8 p + 7 of the set at place k.
 use Rattle.std.specs.Prelude.{◌≡◌, ℕ, ◌+◌, ◌*◌, ◌/◌, ◌%◌, ◌<◌, List, slice_index, bit_and, bit_or}
 use Rattle.calculus_table.specs.Algebra.{Algebra}
 use Rattle.calculus_table.specs.Composition.{full_of, union_below, composition}
@@ -25,9 +25,9 @@ looked_up set p q y = bit_or (slice_index set (256 * p + 32 * q + y % 16)) (slic
 
 -- byte p of what the tables give for the set at place k of the planes
 abbrev pub along_at : List ℕ → List ℕ → ℕ → ℕ → ℕ → ℕ
-along_at set bytes planes p k = union_below planes (λ q. looked_up set p q (slice_index bytes (65536 * q + k)))
+along_at set bytes planes p k = union_below planes (λ q. looked_up set p q (slice_index bytes (256 * q + k)))
 
 -- the set at one place is within what the tables give for the set at another, byte by byte
 abbrev pub IsWithinAlong : List ℕ → List ℕ → ℕ → ℕ → ℕ → Type 0
 IsWithinAlong set bytes planes here there = (p : ℕ) → p < planes →
-    bit_and (slice_index bytes (65536 * p + here)) (along_at set bytes planes p there) ≡ slice_index bytes (65536 * p + here)
+    bit_and (slice_index bytes (256 * p + here)) (along_at set bytes planes p there) ≡ slice_index bytes (256 * p + here)

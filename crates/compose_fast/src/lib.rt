@@ -6,8 +6,8 @@
 //!
 //! - [`Fast`] composes and converts sets by such tables, a nibble at a time.
 //! - [`Tables`] composes one set with 16 others at once: the 16 entries for a nibble are a vector, which a shuffle
-//!   reads at 16
-//! places. It says which of 16 sets aren't within their compositions; who closes a network looks at those alone.
+//!   reads at 16 places. It says which of 16 sets aren't within their compositions; who closes a network looks at those
+//!   alone.
 //! - [`or_rows`], [`first_difference`] and [`first_zero`] are loops over words, several words at a time.
 #![tactic(auto)]
 
@@ -22,8 +22,8 @@ mod vectors;
 pub use fast::Fast;
 pub use kernels::{first_difference, first_zero, or_rows};
 pub use members::without;
-pub use room::filled;
-pub use tables::{PLANE, Tables, put_set};
+pub use room::{clear_to, filled, with_room};
+pub use tables::{Tables, put_set};
 
 #[cfg(test)]
 mod tests;

@@ -2,7 +2,8 @@
 //!
 //! The sets lie in planes: plane `p` has a byte for each set, its members `8 p .. 8 p + 7`. A calculus of up to 8
 //! base relations needs one plane, of up to 16 two, of up to 32 four and of up to 64 eight; the number is a constant
-//! `P` of the code, so that the loops over planes are unrolled.
+//! `P` of the code, so that the loops over planes are unrolled. Up to 256 sets make a row, whose planes lie one after
+//! another, 256 bytes each: so the rows of a few sets take little room, whatever the number of planes.
 //!
 //! For each base relation there is a table of 32 P bytes a plane: for each nibble of a set, its 16 values. The tables
 //! of a set are the unions of those of its members, 2 P vectors a plane. What a set gives composed with 16 others is
@@ -24,9 +25,6 @@ use std::alloc::Global;
 use std::marker::Model;
 use std::simd::prelude::*;
 
-/// The number of bytes of a plane: one for each pair of nodes.
-pub const PLANE: usize = 65536;
-
 /// The tables of the base relations of a calculus, and those of one set.
 #[derive(Debug, Drop)]
 pub struct Tables {
@@ -45,23 +43,9 @@ impl Model for Tables {
     ghost invariant = { λ a. (length a.bases.items ≡ 131072) × (length a.set.items ≡ 2048) };
 }
 
-/// Writes a set into the planes: its byte `p` at place `at` of plane `p`.
+/// Writes the bytes of a set, byte `p` at `at + 256 p`.
 #[inline(always)]
 pub fn put_set<const P: usize>(bytes: &mut [u8], at: usize, a: Rel)
-    requires few { P ≤ 8 }
-    requires inside { at < 65536 }
-    requires bytes_length { length bytes.old ≡ 524288 }
-    ensures here { (p : ℕ) → p < P → slice_index bytes.new (65536 * p + at) ≡ byte a p }
-    ensures elsewhere { (e : ℕ) → ((p : ℕ) → p < P → e ≢ 65536 * p + at)
-        → slice_index bytes.new e ≡ slice_index bytes.old e }
-{
-    for p in 0..P {
-        bytes[PLANE * p + at] = (a.word() >> (8 * p) & 255) as u8;
-    }
-}
-
-/// Writes the bytes of a set, byte `p` at `at + 256 p`.
-fn put_bytes<const P: usize>(bytes: &mut [u8], at: usize, a: Rel)
     requires few { P ≤ 8 }
     requires inside { at + 256 * P ≤ length bytes.old + 255 }
     ensures here { (p : ℕ) → p < P → slice_index bytes.new (256 * p + at) ≡ byte a p }
@@ -139,9 +123,8 @@ fn add_base<const P: usize>(set: &mut [u8], bases: &[u8], r: usize)
 fn along_plane<const P: usize>(set: &[u8], bytes: &[u8], p: usize, at: usize) -> u8x16
     requires few { P ≤ 8 }
     requires plane { p < P }
-    requires inside { at + 16 ≤ 65536 }
+    requires inside { at + 256 * P ≤ length bytes.now + 240 }
     requires set_length { length set.now ≡ 2048 }
-    requires bytes_length { length bytes.now ≡ 524288 }
     ensures { HasLanes 16 result (λ k. along_at set.now bytes.now P p (at + k)) }
 {
     let mut all = u8x16::splat(0);
@@ -149,7 +132,7 @@ fn along_plane<const P: usize>(set: &[u8], bytes: &[u8], p: usize, at: usize) ->
         let table = 256 * p + 32 * q;
         let low = load(set, table);
         let high = load(set, table + 16);
-        all = either(all, along(low, high, load(bytes, PLANE * q + at)));
+        all = either(all, along(low, high, load(bytes, 256 * q + at)));
     }
     all
 }
@@ -159,17 +142,16 @@ fn along_plane<const P: usize>(set: &[u8], bytes: &[u8], p: usize, at: usize) ->
 #[inline(always)]
 fn open_lanes<const P: usize>(set: &[u8], bytes: &[u8], here: usize, there: usize) -> u64
     requires few { P ≤ 8 }
-    requires inside { here + 16 ≤ 65536 }
-    requires inside_too { there + 16 ≤ 65536 }
+    requires inside { here + 256 * P ≤ length bytes.now + 240 }
+    requires inside_too { there + 256 * P ≤ length bytes.now + 240 }
     requires set_length { length set.now ≡ 2048 }
-    requires bytes_length { length bytes.now ≡ 524288 }
     ensures clear { (k : ℕ) → k < 16 → ¬ Has result k → IsWithinAlong set.now bytes.now P (here + k) (there + k) }
     ensures gap { (k : ℕ) → k < 16 → Has result k → ¬ IsWithinAlong set.now bytes.now P (here + k) (there + k) }
     ensures below { (k : ℕ) → Has result k → k < 16 }
 {
     let mut gaps = 0;
     for p in 0..P {
-        let v = load(bytes, PLANE * p + here);
+        let v = load(bytes, 256 * p + here);
         gaps |= differing(both(v, along_plane::<P>(set, bytes, p, there)), v);
     }
     gaps
@@ -202,7 +184,7 @@ impl Tables {
             let r = e / 256;
             let d = e % 256;
             if (d as usize) < 32 * P {
-                put_bytes::<P>(bases, (2048 * r + d) as usize, composition_at(c, r, d));
+                put_set::<P>(bases, (2048 * r + d) as usize, composition_at(c, r, d));
             }
         }
     }
@@ -271,9 +253,8 @@ impl Tables {
     #[inline(always)]
     pub fn open_lanes<const P: usize>(&self, bytes: &[u8], here: usize, there: usize) -> u64
         requires few { P ≤ 8 }
-        requires inside { here + 16 ≤ 65536 }
-        requires inside_too { there + 16 ≤ 65536 }
-        requires bytes_length { length bytes.now ≡ 524288 }
+        requires inside { here + 256 * P ≤ length bytes.now + 240 }
+        requires inside_too { there + 256 * P ≤ length bytes.now + 240 }
         ensures clear { (k : ℕ) → k < 16 → ¬ Has result k
             → IsWithinAlong self.now.set bytes.now P (here + k) (there + k) }
         ensures gap { (k : ℕ) → k < 16 → Has result k

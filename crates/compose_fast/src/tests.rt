@@ -187,7 +187,7 @@ fn assert_lanes<const P: usize>(
     assert!(rt; P <= 8);
     let mut tables = Tables::new(alloc)?;
     tables.fill::<Calculus, P>(plain);
-    let mut planes = vec![in alloc; 0; 524288].map_err(|_| Memory)?;
+    let mut planes = vec![in alloc; 0; 4096].map_err(|_| Memory)?;
     let a = Rel::of(random.next() | random.next()).meet(plain.full());
     assert!(rt; a.within(plain.full()));
     let mut wanted = 0;
@@ -196,14 +196,14 @@ fn assert_lanes<const P: usize>(
         let there = Rel::of(random.next() & random.next()).meet(plain.full());
         assert!(rt; there.within(plain.full()));
         put_set::<P>(&mut planes, lane as usize, here);
-        put_set::<P>(&mut planes, 256 + lane as usize, there);
+        put_set::<P>(&mut planes, 256 * P + lane as usize, there);
         if !here.within(plain.compose(a, there)) {
             wanted |= 1 << lane;
         }
     }
     assert!(rt; a.within(plain.full()));
     tables.take::<Calculus, P>(plain, a);
-    assert_eq!(rt; tables.open_lanes::<P>(&planes, 0, 256), wanted);
+    assert_eq!(rt; tables.open_lanes::<P>(&planes, 0, 256 * P), wanted);
     Ok(())
 }
 

@@ -9,7 +9,7 @@ loop-p-init g c = AreGapsBelow-none _ _
 
 pub loop-p-preserved : goal.loop-p-preserved
 loop-p-preserved g c =
-    AreGapsBelow-step (λ p k. slice_index c.args.bytes.now (65536 * p + (c.args.here + k))) (λ p k. along_at c.args.set.now c.args.bytes.now g.row.P p (c.args.there + k))
+    AreGapsBelow-step (λ p k. slice_index c.args.bytes.now (256 * p + (c.args.here + k))) (λ p k. along_at c.args.set.now c.args.bytes.now g.row.P p (c.args.there + k))
     c.load-v.result c.along_plane.result c.both.result c.loop-p.gaps c.differing-gaps.result c.loop-p.p (c.loop-p.p + 1) c.args.here c.args.bytes.now (omega arith) c.loop-p.invariant
     (record { long = c.load-v.ensures.long; each = λ k l. c.load-v.ensures.each k l ∙ ap (slice_index c.args.bytes.now) (omega arith) }) c.along_plane.ensures c.both.ensures c.differing-gaps.ensures.lanes c.differing-gaps.ensures.below
 

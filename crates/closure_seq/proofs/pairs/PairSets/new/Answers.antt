@@ -1,7 +1,8 @@
-use Rattle.std.proofs.Common.{◌∙◌, ◌*◌, sym, length, ap, arith, count_by}
+use Rattle.std.proofs.Common.{◌∙◌, ◌*◌, sym, refl, length, ap, arith, count_by}
+use Rattle.std.specs.Prelude.{slice_index}
 use Rattle.std.proofs.lemmas.List.{length-replicate}
 use Rattle.closure_seq.proofs.Places.{count-none}
-use Rattle.closure_seq.proofs.Planes.{AreBytesOf-empty}
+use Rattle.closure_seq.proofs.Planes.{AreBytesOf-none, zero-at}
 use Rattle.closure_seq.proofs.pairs.PairSets.new.Goals as goal
 
 pub invariant_of-result : goal.invariant_of-result
@@ -12,6 +13,8 @@ invariant_of-result c = (
     sets_length = ap length c.in_ok-sets.ensures ∙ length-replicate _ _;
     queued_length = ap length c.in_ok-queued.ensures ∙ length-replicate _ _;
   },
-  AreBytesOf-empty _ c.in_ok-bytes.bytes.items _ (omega arith) c.in_ok-sets.ensures c.in_ok-bytes.ensures,
+  AreBytesOf-none _ c.in_ok-bytes.bytes.items refl c.in_ok-bytes.ensures.none,
   sym (ap (count_by (λ b. b)) c.in_ok-queued.ensures ∙ count-none (256 * c.args.nodes)),
+  omega (arith, c.in_ok-bytes.ensures.room),
+  λ _ e. ap (λ xs. slice_index xs e) c.in_ok-sets.ensures ∙ zero-at (256 * c.args.nodes) e,
 )

@@ -1,4 +1,4 @@
-use Rattle.std.proofs.Common.{◌≡◌, ◌<◌, ◌+◌, ◌*◌, ◌++◌, take, drop, length, ap, ◌∙◌, arith}
+use Rattle.std.proofs.Common.{◌≡◌, ◌<◌, ◌+◌, ◌*◌, ◌++◌, take, drop, length, sym, ap, ◌∙◌, arith}
 use Rattle.std.proofs.lemmas.Grind.{common_steps}
 use Rattle.std.specs.Prelude.{slice_index}
 use Rattle.closure_seq.specs.Worklist.{Worklist}
@@ -17,8 +17,11 @@ invariant_of-self g c =
     let whole : take c.self.inside.bytes.len (c.put_set.new.bytes ++ drop (length c.put_set.new.bytes) c.self.inside.bytes.items) ≡ c.put_set.new.bytes = grind (arith, common_steps) in (
       IsSized-put work (256 * c.args.i + c.args.j) c.args.rel z,
       rw whole
-          (AreBytesOf-put work c.self.inside.bytes.items c.put_set.new.bytes c.args.i c.args.j c.args.rel z ib jb (let size = c.put_set.auto.bytes in let was = ap length c.deref_mut.ensures.value in size ∙ was) b
+          (AreBytesOf-put work c.self.inside.bytes.items c.put_set.new.bytes c.args.i c.args.j c.args.rel c.byte_place.result z ib jb (let size = c.put_set.auto.bytes in let was = ap length c.deref_mut.ensures.value in size ∙ was) b
+          (c.byte_place.ensures ∙ ap (λ q. 256 * (q * c.args.i) + c.args.j) (sym planes))
           (λ p l. c.put_set.ensures.here p (omega arith))
           (λ e apart. c.put_set.ensures.elsewhere e (λ p l. apart p (omega arith)) ∙ ap (λ xs. slice_index xs e) c.deref_mut.ensures.value)),
       c.self.invariant.2,
+      c.self.invariant.3,
+      λ empty. cc,
     )
