@@ -6,11 +6,13 @@ pub mod OneVerdict
 pub mod Products
 pub mod SomeVerdict
 pub mod FirstEdges
+pub mod BitLists
+pub mod CandidateEdges
+pub mod Guiding
 pub mod Ways
 pub mod Transitions
 pub mod Leaving
 pub mod Stopping
-pub mod Partitions
 pub mod Bounds
 pub mod Steps
 pub mod Stops

@@ -13,7 +13,8 @@ use Rattle.refutation.specs.declared.tree.Kind.TheVariants.{Empty, Found, Open}
 use Rattle.refutation.specs.Tree.{TreeNode, sweep, leaf_node, leaf}
 use Rattle.split_search.specs.Ruled.{IsSeveral, IsUndecided, IsSplitOf, singles_in, at_scenario, at_budget}
 use Rattle.split_search.specs.Way.{SplitState, node_of, Frame, Held, IsFrame, IsVisiting, IsAtSplit, IsBetween, IsEnded, IsLeft}
-use Rattle.split_search.specs.Searches.{Task, IsTask, IsNextEdge, AreNextParts, children_left, IsWithinBudget, IsAtChild, IsGoing, HasStopped}
+use Rattle.split_search.specs.Searches.{Task, IsTask, children_left, IsWithinBudget, IsAtChild, IsGoing, HasStopped}
+use Rattle.split_search.specs.Candidates.{IsNextEdge, AreNextParts}
 use Rattle.split_search.proofs.Splits.{MakeUp}
 use Rattle.split_search.proofs.Networks.{closure-network, set-network, not-empty}
 use Rattle.split_search.proofs.Refuted.{split-below, ruled-make_up}
@@ -186,6 +187,9 @@ module _ (t : Task) (is : IsTask t) where
       let made : MakeUp (slice_index f.words f.state.edge) f.state.parts =
       ruled-make_up t.algebra t.nodes t.class is.bases f.words f.state.edge f.state.parts h.network h.undecided h.ruled in
       at-index (λ p. IsWithin p (slice_index f.words f.state.edge)) f.state.parts k made.within below
+
+  pub last-full : (held : Held) (top : List ℕ) (outer : List SplitState) (split : SplitState) → IsAtLast held top outer split → ¬ Contains top 0
+  last-full held top outer split l = subst (λ ws. ¬ Contains ws 0) (sym l.at.is_top) l.at.is_frame.undecided.no_empty
 
   pub last-part : (held : Held) (top : List ℕ) (outer : List SplitState) (split : SplitState) → IsAtLast held top outer split → length split.children < length split.parts →
       IsWithin (slice_index split.parts (length split.children)) (slice_index top split.edge)

@@ -1,5 +1,7 @@
 pub mod Ruled
 pub mod Laws
+pub mod Bits
+pub mod Candidates
 pub mod Way
 pub mod Searches
 pub mod Verdicts

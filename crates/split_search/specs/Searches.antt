@@ -1,31 +1,19 @@
 -- What a search is of, and what it keeps between its steps.
-use Rattle.std.specs.Prelude.{◌≡◌, ℕ, ◌+◌, ◌-◌, ◌*◌, ◌≤◌, ◌⊎◌, List, [], ◌∷◌, ◌++◌, length, replicate, Contains, All}
+use Rattle.std.specs.Prelude.{◌≡◌, ℕ, ◌+◌, ◌-◌, ◌*◌, ◌≤◌, List, [], ◌∷◌, ◌++◌, length, replicate}
 use Rattle.std.specs.List.{range_with_len}
 use Rattle.calculus_table.specs.Algebra.{Algebra}
 use Rattle.calculus_table.specs.Calculus.{EachBase}
 use Rattle.network_words.specs.Network.{Network, IsNetwork}
 use Rattle.tract_classes.specs.Class.{HasBase}
-use Rattle.tract_classes.specs.Parts.{AreParts}
 use Rattle.refutation.specs.declared.tree.Kind.TheVariants.{Later}
 use Rattle.refutation.specs.Tree.{TreeNode, sweep, leaf_node}
 use Rattle.split_search.specs.declared.TheConstants.{MAX_BUDGET}
 use Rattle.split_search.specs.declared.searching.Search.{Search}
 use Rattle.split_search.specs.declared.searching.Stop.{Stop}
 use Rattle.split_search.specs.declared.searching.Stop.TheVariants.{Found, Spent}
-use Rattle.split_search.specs.Ruled.{IsSeveral, IsFirstEdge, singles_in, End, at_scenario, at_budget}
+use Rattle.split_search.specs.Ruled.{End, at_scenario, at_budget}
+use Rattle.split_search.specs.Candidates.{GuidedLevels}
 use Rattle.split_search.specs.Way.{SplitState, Held, IsVisiting, IsBetween, IsEnded}
-
--- ---- the next split
-
--- the first edge whose set isn't in the class; where there is none, the first whose set has more than one base relation
-abbrev pub IsNextEdge : List ℕ → List ℕ → ℕ → Type 0
-IsNextEdge class words e =
-    IsFirstEdge words (λ a. ¬ Contains class a) e ⊎ (All (Contains class) words × IsFirstEdge words IsSeveral e)
-
--- the parts of a set outside the class, and the single base relations of one in it
-abbrev pub AreNextParts : ℕ → List ℕ → ℕ → List ℕ → Type 0
-AreNextParts size class set parts =
-    ((¬ Contains class set) × AreParts class set parts) ⊎ (Contains class set × (parts ≡ singles_in size set))
 
 -- ---- what a search is of
 
@@ -47,15 +35,18 @@ pub record IsTask (t : Task) : Type 0 where
   pub bases : EachBase t.algebra (HasBase t.class)
   pub few : t.budget ≤ MAX_BUDGET
 
-abbrev pub task_of : Search → Task
-task_of s = record {
-  algebra = s.path.algebra;
-  nodes = s.path.nodes;
-  size = s.size;
-  net = s.net.now;
-  class = s.class.now;
-  budget = s.budget;
+abbrev pub task_with : Network → ℕ → GuidedLevels → Task
+task_with net budget path = record {
+  algebra = path.algebra;
+  nodes = path.nodes;
+  size = path.size;
+  net = net;
+  class = path.class;
+  budget = budget;
 }
+
+abbrev pub task_of : Search → Task
+task_of s = task_with s.net.now s.budget s.path
 
 -- what a search holds; and that with a split that was taken from its open ones
 abbrev pub held_of : Search → Held

@@ -18,10 +18,15 @@
 //! split of one closed network by itself.
 #![tactic(auto)]
 
+mod bits;
+mod candidates;
 mod choosing;
+mod edge_set;
 mod edges;
+mod found;
+mod guided_path;
+mod known_parts;
 mod laws;
-mod next;
 mod searching;
 mod split;
 #[cfg(test)]

@@ -5,7 +5,8 @@
 //! leaf, and so is one with one base relation for each edge, at which the search ends. Any other is split as it is
 //! ruled, if the budget has a split left; else the search ends there. The splits on the way from the first network to
 //! the top are open: a list of records, so no call is made within a call. When the last open split has a child for each
-//! part it is closed, and the path goes back. After an end the children that weren't made are left for later.
+//! part it is closed, and the path goes back. After an end the children that weren't made are left for later. A network
+//! that has an empty set already isn't closed: its closure has one as well.
 //!
 //! The nodes are numbered in the order in which they are made, which is the preorder of the tree. The node of a split
 //! is put in its place when the split is closed, for only then are the numbers of its children known.
@@ -13,7 +14,7 @@
 //! Why it ends: each step makes a node or closes a split. A split has a part for each of 64 base relations at most, so
 //! a tree of as many splits as the budget has 64 times as many nodes and one more at most. What it costs: the path
 //! keeps what its levels changed, so memory grows with the depth and with the tree, and no network is copied. A node
-//! costs what closing changes, and a look at the set of each edge (Nebel 1997; Dechter 2003).
+//! costs what closing changes: the edge to split is found from that as well (Nebel 1997; Dechter 2003).
 ghost use Rattle.std.specs.Prelude.{◌≡◌, ◌+◌, ◌-◌, ◌^◌, ◌<◌, ◌≤◌, [], ◌∷◌, ◌++◌, All, Contains};
 ghost use Rattle.std.specs.Prelude.{IfOk, OnOk, MatchOption, length, set};
 ghost use Rattle.calculus_table.specs.Calculus.{EachBase};
@@ -21,17 +22,19 @@ ghost use Rattle.network_words.specs.Network.{IsNetwork};
 ghost use Rattle.tract_classes.specs.Class.{HasBase};
 ghost use Rattle.refutation.specs.Tree.{sweep, leaf_node};
 ghost use Rattle.split_search.specs.Ruled.{IsSeveral, IsUndecided, End, at_scenario, at_budget, IsVerdict};
-ghost use Rattle.split_search.specs.Way.{node_of, IsLeft};
-ghost use Rattle.split_search.specs.Searches.{IsNextEdge, IsTask, task_of, held_of, held_with, work_left};
+ghost use Rattle.split_search.specs.Way.{node_of};
+ghost use Rattle.split_search.specs.Searches.{IsTask, task_of, held_of, held_with, work_left};
+ghost use Rattle.split_search.specs.Candidates.{IsNextEdge};
 ghost use Rattle.split_search.specs.Searches.{IsAtChild, IsGoing, HasStopped, end_of, AreLeft};
 ghost use Rattle.split_search.specs.Verdicts.{IsTrueOf, KeepsBudget, AreSearched, nodes_of};
 
 use crate::MAX_BUDGET;
 use crate::edges::nodes_of_edge;
-use crate::next::{base_relations, next_edge, next_parts};
+use crate::found::base_relations;
+use crate::guided_path::GuidedPath;
 use crate::split::Split;
 use crate::verdict::Verdict;
-use calculus_table::{Compose, Memory};
+use calculus_table::{Compose, Memory, lawful};
 use closure_seq::ClosedPath;
 use network_words::Net;
 use refutation::{Kind, Node, Steps, Tree};
@@ -53,10 +56,8 @@ pub(crate) enum Stop {
 #[derive(Drop)]
 pub(crate) struct Search<'a> {
     net: &'a Net,
-    class: &'a Class,
-    size: u32,
     budget: u32,
-    path: ClosedPath,
+    path: GuidedPath<'a>,
     open_splits: Vec<Split>,
     nodes: Vec<Node>,
     count: u32,
@@ -85,11 +86,14 @@ pub fn solve<C: Compose>(
     ensures splits { IfOk result (KeepsBudget budget) }
     ensures nodes { IfOk result (λ v. AreSearched budget (nodes_of v)) }
 {
-    let path = ClosedPath::new(alloc, net, c)?;
+    if net.words().contains(&0) {
+        lawful(c);
+        return Ok(Verdict::No(empty_tree(alloc)?));
+    }
+    let levels = ClosedPath::new(alloc, net, c)?;
+    let path = GuidedPath::new(alloc, levels, class, c.size())?;
     let mut search = Search {
         net,
-        class,
-        size: c.size(),
         budget,
         path,
         open_splits: Vec::new(alloc),
@@ -125,6 +129,15 @@ fn push_leaf(alloc: Global, nodes: &mut Vec<Node>, kind: Kind) -> Result<(), Mem
     Ok(())
 }
 
+/// The tree of a network with an empty set, which is a leaf.
+fn empty_tree(alloc: Global) -> Result<Tree, Memory>
+    ensures { IfOk result (λ tree. tree ≡ leaf_node Kind.Empty sweep ∷ []) }
+{
+    let mut nodes = Vec::new(alloc);
+    push_leaf(alloc, &mut nodes, Kind::Empty)?;
+    Ok(Tree { nodes })
+}
+
 /// Puts the node of a split in its place.
 fn put(nodes: &mut Vec<Node>, split: Split)
     requires { split.node < length nodes.old.items }
@@ -144,16 +157,6 @@ fn leave_rest(alloc: Global, nodes: &mut Vec<Node>, mut split: Split) -> Result<
         push_leaf(alloc, nodes, Kind::Later)?;
     }
     Ok(split)
-}
-
-/// Leaves the top of the path, if it isn't the first level.
-fn leave(path: &mut ClosedPath)
-    ensures left { IsLeft path.old.below path.new.below path.new.top }
-    ensures rest { path.new ≡ record path.old { top = path.new.top; below = path.new.below } }
-{
-    if !path.is_first() {
-        path.back();
-    }
 }
 
 impl Search<'_> {
@@ -213,7 +216,7 @@ impl Search<'_> {
         ensures nodes { length self.new.nodes.items ≡ length self.old.nodes.items }
     {
         put(&mut self.nodes, split);
-        leave(&mut self.path);
+        self.path.leave();
     }
 
     /// Goes down to the network of the next part of the last open split.
@@ -253,7 +256,7 @@ impl Search<'_> {
             self.leave_empty(alloc)?;
             return Ok(None);
         }
-        let Some(edge) = next_edge(&self.path, self.class) else {
+        let Some(edge) = self.path.next_edge() else {
             let scenario = self.find(alloc)?;
             return Ok(Some(Stop::Found(scenario)));
         };
@@ -278,7 +281,7 @@ impl Search<'_> {
         ensures splits { OnOk result (self.new.open_splits.items ≡ self.old.open_splits.items) }
     {
         push_leaf(alloc, &mut self.nodes, Kind::Empty)?;
-        leave(&mut self.path);
+        self.path.leave();
         Ok(())
     }
 
@@ -319,7 +322,7 @@ impl Search<'_> {
         requires task { IsTask (task_of self.old) }
         requires child { IsAtChild (task_of self.old) (held_of self.old) self.old.path.top }
         requires not_empty { ¬ Contains self.old.path.top 0 }
-        requires next { IsNextEdge self.old.class.now self.old.path.top edge }
+        requires next { IsNextEdge self.old.path.class self.old.path.top edge }
         requires left { self.old.count < self.old.budget }
         ensures going { OnOk result
             (IsGoing (task_of self.old) (held_of self.new) self.new.path.top) }
@@ -329,7 +332,7 @@ impl Search<'_> {
         ensures splits { OnOk result
             (length self.new.open_splits.items ≡ length self.old.open_splits.items + 1) }
     {
-        let parts = next_parts(alloc, self.class, self.size, self.path.word(edge))?;
+        let parts = self.path.next_parts(alloc, edge)?;
         let (i, j) = nodes_of_edge(self.net, edge);
         let split = Split {
             node: self.nodes.len() as u32,

@@ -29,6 +29,9 @@ const TPPI: u64 = 1 << 5;
 
 const ALL: u64 = 255;
 
+/// The single base relations.
+const EACH: [u64; 8] = [1, 2, 4, 8, 16, 32, 64, 128];
+
 fn owned(alloc: Global, name: &str) -> Result<String, TableFault> {
     String::from_str(alloc, name).map_err(|_| TableFault::Memory)
 }
@@ -125,40 +128,54 @@ fn assert_split(
     Ok(())
 }
 
-#[test]
-fn splits_are_ruled(rt: HostRuntime) -> Result<(), Fail> {
-    let alloc = rt.alloc();
-    let regions = rcc8(alloc)?;
-    let class = h8(alloc)?;
-    // nodes, sets, the edge that is split and its parts
-    let rows: [(u32, &[u64], Option<(u32, &[u64])>); 5] = [
-        (3, &[ALL, TPP | TPPI, TPP | TPPI], Some((1, &[TPP, TPPI]))),
-        (
-            3,
-            &[TPP, ALL, ALL],
-            Some((1, &[1, 2, 4, 8, 16, 32, 64, 128])),
-        ),
-        (2, &[0], None),
-        (2, &[TPP], None),
-        (1, &[], None),
-    ];
+/// A network, by its nodes and sets, with the edge that is split and its parts.
+type SplitRow<'a> = (u32, &'a [u64], Option<(u32, &'a [u64])>);
+
+fn assert_splits<C: Compose>(
+    rt: &impl Abort,
+    alloc: Global,
+    c: &C,
+    class: &Class,
+    rows: &[SplitRow],
+) -> Result<(), Fail> {
     for (nodes, words, expected) in rows {
-        let split = split_of(&rt, alloc, &regions, &class, nodes, words)?;
-        assert_split(&rt, split, expected)?;
-    }
-    let colours = ramsey(alloc)?;
-    let singles = none(alloc, 3)?;
-    let rows: [(u32, &[u64], Option<(u32, &[u64])>); 4] = [
-        (3, &[A | B, A | B, A | B], Some((0, &[A, B]))),
-        (3, &[A, A | B, A | B], Some((1, &[A, B]))),
-        (3, &[A, A, B], None),
-        (3, &[A, A, A], None),
-    ];
-    for (nodes, words, expected) in rows {
-        let split = split_of(&rt, alloc, &colours, &singles, nodes, words)?;
-        assert_split(&rt, split, expected)?;
+        let split = split_of(rt, alloc, c, class, *nodes, words)?;
+        assert_split(rt, split, *expected)?;
     }
     Ok(())
+}
+
+const SPLITS_OF_REGIONS: [SplitRow; 5] = [
+    (3, &[ALL, TPP | TPPI, TPP | TPPI], Some((1, &[TPP, TPPI]))),
+    (3, &[TPP, ALL, ALL], Some((1, &EACH))),
+    (2, &[0], None),
+    (2, &[TPP], None),
+    (1, &[], None),
+];
+
+const SPLITS_OF_COLOURS: [SplitRow; 4] = [
+    (3, &[A | B, A | B, A | B], Some((0, &[A, B]))),
+    (3, &[A, A | B, A | B], Some((1, &[A, B]))),
+    (3, &[A, A, B], None),
+    (3, &[A, A, A], None),
+];
+
+#[test]
+fn splits_of_regions_are_ruled(rt: HostRuntime) -> Result<(), Fail> {
+    let alloc = rt.alloc();
+    assert_splits(&rt, alloc, &rcc8(alloc)?, &h8(alloc)?, &SPLITS_OF_REGIONS)
+}
+
+#[test]
+fn splits_of_colours_are_ruled(rt: HostRuntime) -> Result<(), Fail> {
+    let alloc = rt.alloc();
+    assert_splits(
+        &rt,
+        alloc,
+        &ramsey(alloc)?,
+        &none(alloc, 3)?,
+        &SPLITS_OF_COLOURS,
+    )
 }
 
 /// What a verdict says.
@@ -201,39 +218,56 @@ const SIX: [u64; 15] = [A | B; 15];
 /// Six nodes, where both colours of the edge from 0 to 5 make a triangle of one colour.
 const FAN: [u64; 15] = [A, B, A, B, 6, 6, 6, 6, 6, 6, 6, 6, 6, 6, 6];
 
-#[test]
-fn searches_end_as_they_are_ruled(rt: HostRuntime) -> Result<(), Fail> {
-    let alloc = rt.alloc();
-    let colours = ramsey(alloc)?;
-    let singles = none(alloc, 3)?;
-    // nodes, sets, budget, what is said and the number of splits
-    let rows: [(u32, &[u64], u32, Said, u32); 6] = [
-        (5, &FIVE, 1023, Said::Yes, 5),
-        (5, &FIVE, 4, Said::Budget, 4),
-        (6, &SIX, 19, Said::No, 19),
-        (6, &SIX, 18, Said::Budget, 18),
-        (6, &SIX, 0, Said::Budget, 0),
-        (6, &FAN, 1000, Said::No, 1),
-    ];
+/// A network, by its nodes and sets, with the budget, what is said and the number of splits.
+type SearchRow<'a> = (u32, &'a [u64], u32, Said, u32);
+
+fn assert_searches<C: Compose>(
+    rt: &impl Abort,
+    alloc: Global,
+    c: &C,
+    class: &Class,
+    rows: &[SearchRow],
+) -> Result<(), Fail> {
     for (nodes, words, budget, said, splits) in rows {
-        let net = net_of(&rt, alloc, &colours, nodes, words)?;
-        let verdict = judge(&rt, alloc, &net, &colours, &singles, budget)?;
-        assert!(rt; verdict == (said, splits));
-    }
-    let regions = rcc8(alloc)?;
-    let class = h8(alloc)?;
-    let rows: [(u32, &[u64], u32, Said, u32); 4] = [
-        (2, &[TPP | TPPI], 1000, Said::Yes, 1),
-        (2, &[TPP | TPPI], 0, Said::Budget, 0),
-        (2, &[0], 1000, Said::No, 0),
-        (1, &[], 1000, Said::Yes, 0),
-    ];
-    for (nodes, words, budget, said, splits) in rows {
-        let net = net_of(&rt, alloc, &regions, nodes, words)?;
-        let verdict = judge(&rt, alloc, &net, &regions, &class, budget)?;
-        assert!(rt; verdict == (said, splits));
+        let net = net_of(rt, alloc, c, *nodes, words)?;
+        let verdict = judge(rt, alloc, &net, c, class, *budget)?;
+        assert!(rt; verdict == (*said, *splits));
     }
     Ok(())
+}
+
+const SEARCHES_OF_COLOURS: [SearchRow; 6] = [
+    (5, &FIVE, 1023, Said::Yes, 5),
+    (5, &FIVE, 4, Said::Budget, 4),
+    (6, &SIX, 19, Said::No, 19),
+    (6, &SIX, 18, Said::Budget, 18),
+    (6, &SIX, 0, Said::Budget, 0),
+    (6, &FAN, 1000, Said::No, 1),
+];
+
+const SEARCHES_OF_REGIONS: [SearchRow; 4] = [
+    (2, &[TPP | TPPI], 1000, Said::Yes, 1),
+    (2, &[TPP | TPPI], 0, Said::Budget, 0),
+    (2, &[0], 1000, Said::No, 0),
+    (1, &[], 1000, Said::Yes, 0),
+];
+
+#[test]
+fn searches_of_colours_end_as_they_are_ruled(rt: HostRuntime) -> Result<(), Fail> {
+    let alloc = rt.alloc();
+    assert_searches(
+        &rt,
+        alloc,
+        &ramsey(alloc)?,
+        &none(alloc, 3)?,
+        &SEARCHES_OF_COLOURS,
+    )
+}
+
+#[test]
+fn searches_of_regions_end_as_they_are_ruled(rt: HostRuntime) -> Result<(), Fail> {
+    let alloc = rt.alloc();
+    assert_searches(&rt, alloc, &rcc8(alloc)?, &h8(alloc)?, &SEARCHES_OF_REGIONS)
 }
 
 /// So many of the last digits of a number to a base.
@@ -289,24 +323,45 @@ fn net_of_number<C: Compose>(
     Ok(net)
 }
 
-#[test]
-fn searches_say_what_trying_each_list_says(rt: HostRuntime) -> Result<(), Fail> {
-    let alloc = rt.alloc();
-    let colours = ramsey(alloc)?;
-    let singles = none(alloc, 3)?;
-    for k in 0..60 {
-        let net = net_of_number(&rt, alloc, &colours, 4, k * 1961)?;
-        let (said, _) = judge(&rt, alloc, &net, &colours, &singles, 1000)?;
-        let has = has_scenario(alloc, &net, &colours, 3, 729)?;
-        assert!(rt; said == if has { Said::Yes } else { Said::No });
-    }
-    let regions = rcc8(alloc)?;
-    let class = h8(alloc)?;
-    for k in 0..40 {
-        let net = net_of_number(&rt, alloc, &regions, 3, k * 414_533)?;
-        let (said, _) = judge(&rt, alloc, &net, &regions, &class, 1000)?;
-        let has = has_scenario(alloc, &net, &regions, 8, 512)?;
+/// Searches so many networks, numbered in steps, and tries each list of base relations on them.
+fn assert_tried<C: Compose>(
+    rt: &impl Abort,
+    alloc: Global,
+    c: &C,
+    class: &Class,
+    (nodes, count, step, lists): (u32, u32, u32, u32),
+) -> Result<(), Fail> {
+    let size = c.size();
+    for k in 0..count {
+        let net = net_of_number(rt, alloc, c, nodes, k.wrapping_mul(step))?;
+        let (said, _) = judge(rt, alloc, &net, c, class, 1000)?;
+        assert!(rt; 0 < size && size <= 64);
+        let has = has_scenario(alloc, &net, c, size, lists)?;
         assert!(rt; said == if has { Said::Yes } else { Said::No });
     }
     Ok(())
+}
+
+#[test]
+fn searches_of_colours_say_what_trying_each_list_says(rt: HostRuntime) -> Result<(), Fail> {
+    let alloc = rt.alloc();
+    assert_tried(
+        &rt,
+        alloc,
+        &ramsey(alloc)?,
+        &none(alloc, 3)?,
+        (4, 60, 1961, 729),
+    )
+}
+
+#[test]
+fn searches_of_regions_say_what_trying_each_list_says(rt: HostRuntime) -> Result<(), Fail> {
+    let alloc = rt.alloc();
+    assert_tried(
+        &rt,
+        alloc,
+        &rcc8(alloc)?,
+        &h8(alloc)?,
+        (3, 40, 414_533, 512),
+    )
 }

@@ -108,11 +108,12 @@ member_part class a c some = (some, largest_itself class a c, xor_self a)
 
 -- ---- the partition
 
-record IsPartitionWithin (class : List ℕ) (set : ℕ) (parts : List ℕ) : Type 0 where
-  partition : IsPartition class set parts
-  within : All (λ a. IsWithin a set) parts
+-- the parts of a set are a partition of it, and each is within it
+pub record IsPartitionWithin (class : List ℕ) (set : ℕ) (parts : List ℕ) : Type 0 where
+  pub partition : IsPartition class set parts
+  pub within : All (λ a. IsWithin a set) parts
 
-partition_within : (class : List ℕ) (set : ℕ) (parts : List ℕ) → HasBasesOf class set → AreParts class set parts → IsPartitionWithin class set parts
+pub partition_within : (class : List ℕ) (set : ℕ) (parts : List ℕ) → HasBasesOf class set → AreParts class set parts → IsPartitionWithin class set parts
 partition_within class set [] bases h = record {
   partition = record { members = All-nil (Contains class); some = All-nil (λ a. a ≢ 0); disjoint = λ i j d l below. absurd (omega arith); union = sym h };
   within = All-nil (λ a. IsWithin a set);
