@@ -7,3 +7,4 @@ pub mod PlainCertificates
 pub mod ReadAgain
 pub mod ReadForms
 pub mod OneLine
+pub mod WrittenFiles

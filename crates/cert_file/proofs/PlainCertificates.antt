@@ -17,7 +17,7 @@ use Rattle.refutation.specs.declared.tree.Step.{Step}
 use Rattle.cert_file.specs.Certificate.{Certificate}
 use Rattle.cert_file.specs.Nodes.{kind_name}
 use Rattle.cert_file.specs.Fields.{claim_name, certificate_with}
-use Rattle.cert_file.specs.Written.{number_json, list_json, step_json, steps_json, steps_entries, node_entries, node_json, version_for, version_number, certificate_members, certificate_json, AreBelow, IsStepOfNumbers, AreStepsOfNumbers, IsWritableNode, IsScenarioFor, IsWritable}
+use Rattle.cert_file.specs.Written.{number_json, list_json, step_json, steps_json, steps_entries, node_entries, node_json, version_for, version_number, certificate_members, certificate_json, AreBelow, IsStepOfNumbers, AreStepsOfNumbers, IsNodeOfNumbers, IsWritable}
 use Rattle.cert_file.specs.declared.claim.Claim.{Claim}
 use Rattle.cert_file.specs.declared.claim.Claim.TheVariants.{Yes, No, Budget}
 use Rattle.cert_file.specs.declared.claim.Version.{Version}
@@ -36,11 +36,11 @@ plain_numbers limit fits ns below = plain_list number_json (λ n. n < limit) (λ
 plain_step : (step : Step) → IsStepOfNumbers step → IsPlain (step_json step)
 plain_step step h = (omega (arith, h.i), (omega (arith, h.j), (omega (arith, h.k), tt)))
 
-plain_steps : (steps : NodeSteps) → AreStepsOfNumbers steps → IsPlain (steps_json steps)
+plain_steps : (steps : NodeSteps) → AreStepsOfNumbers Two steps → IsPlain (steps_json steps)
 plain_steps sweep h = IsUtf8-are_ascii _ refl
 plain_steps (listed steps) h = plain_list step_json IsStepOfNumbers plain_step steps h
 
-plain_entries : (version : Version) (steps : NodeSteps) → AreStepsOfNumbers steps → ArePlain (items_of (steps_entries version steps))
+plain_entries : (version : Version) (steps : NodeSteps) → AreStepsOfNumbers version steps → ArePlain (items_of (steps_entries version steps))
 plain_entries One steps h = tt
 plain_entries Two steps h = (plain_steps steps h, tt)
 
@@ -51,8 +51,8 @@ plain_kind Open = IsUtf8-are_ascii _ refl
 plain_kind Later = IsUtf8-are_ascii _ refl
 plain_kind Split = IsUtf8-are_ascii _ refl
 
-plain_node_entries : (version : Version) (kind : Kind) (node : TreeNode) → IsWritableNode kind node → ArePlain (items_of (node_entries version kind node))
-plain_node_entries version Empty node h = plain_entries version node.steps h.1
+plain_node_entries : (version : Version) (kind : Kind) (node : TreeNode) → IsNodeOfNumbers version kind node → ArePlain (items_of (node_entries version kind node))
+plain_node_entries version Empty node h = plain_entries version node.steps h
 plain_node_entries version Found node h = tt
 plain_node_entries version Open node h = tt
 plain_node_entries version Later node h = tt
@@ -70,7 +70,7 @@ plain_node_entries version Split node h = (
   ),
 )
 
-plain_node : (version : Version) (node : TreeNode) → IsWritableNode node.kind node → IsPlain (node_json version node)
+plain_node : (version : Version) (node : TreeNode) → IsNodeOfNumbers version node.kind node → IsPlain (node_json version node)
 plain_node version node h = (plain_kind node.kind, plain_node_entries version node.kind node h)
 
 plain_name : (name : List ℕ) → is_name name ≡ true → IsUtf8 name
@@ -85,25 +85,24 @@ plain_version : (version : Version) → version_number version < 2 ^ 64
 plain_version One = omega arith
 plain_version Two = omega arith
 
-pub bases_below : (claim : Claim) (bases : List ℕ) → IsScenarioFor claim (Some bases) → AreBelow (2 ^ 8) bases
-bases_below Yes bases h = h
-bases_below No bases h = absurd (cc)
-bases_below Budget bases h = absurd (cc)
-
 -- ---- the whole value
 
-module _ (version : Version) (nodes : ℕ) (relations : List (List ℕ)) (claim : Claim) (tree : List TreeNode) where
+module _ (nodes : ℕ) (relations : List (List ℕ)) (claim : Claim) (tree : List TreeNode) where
   abbrev with_bases : Option (List ℕ) → Certificate
   with_bases scenario = certificate_with nodes relations claim scenario tree
 
   plain_nodes : (c : Certificate) → IsWritable c → c.nodes < 2 ^ 64
-  plain_nodes c h = omega (arith, h.few_nodes)
+  plain_nodes c h = omega (arith, h.forms.few_nodes)
 
   plain_relations : (c : Certificate) → IsWritable c → IsPlain (list_json string c.relations)
-  plain_relations c h = plain_list string (λ name. is_name name ≡ true) plain_name c.relations (AllPass-from_list_all is_name c.relations h.names)
+  plain_relations c h = plain_list string (λ name. is_name name ≡ true) plain_name c.relations (AllPass-from_list_all is_name c.relations h.forms.names)
 
-  plain_tree : (c : Certificate) → IsWritable c → IsPlain (list_json (node_json version) c.tree)
-  plain_tree c h = plain_list (node_json version) (λ node. IsWritableNode node.kind node) (plain_node version) c.tree h.tree
+  plain_tree : (c : Certificate) → IsWritable c → IsPlain (list_json (node_json (version_for c.tree)) c.tree)
+  plain_tree c h =
+      plain_list (node_json (version_for c.tree)) (λ node. IsNodeOfNumbers (version_for c.tree) node.kind node) (plain_node (version_for c.tree)) c.tree h.numbers.tree
+
+  abbrev version : Version
+  version = version_for tree
 
   pub plain_members : (scenario : Option (List ℕ)) → IsWritable (with_bases scenario) → IsPlain (object (certificate_members version (with_bases scenario)))
   plain_members None h =
@@ -119,13 +118,13 @@ module _ (version : Version) (nodes : ℕ) (relations : List (List ℕ)) (claim 
       let p₂ = plain_relations (with_bases (Some bases)) h in
       let p₃ = plain_tree (with_bases (Some bases)) h in
       let p₄ = plain_version version in
-      let p₅ = plain_numbers (2 ^ 8) (omega arith) bases (bases_below claim bases h.scenario) in (
+      let p₅ = plain_numbers (2 ^ 8) (omega arith) bases h.numbers.scenario in (
         (IsUtf8-are_ascii _ refl, p₁, (IsUtf8-are_ascii _ refl, p₂, (IsUtf8-are_ascii _ refl, p₅, (IsUtf8-are_ascii _ refl, p₃, (IsUtf8-are_ascii _ refl, plain_claim claim, (IsUtf8-are_ascii _ refl, p₄, tt)))))),
         rw (of_json-outline (number_json nodes) p₁, of_json-outline (list_json string relations) p₂, of_json-outline (list_json number_json bases) p₅, of_json-outline (list_json (node_json version) tree) p₃, of_json-outline (number_json (version_number version)) p₄) refl,
       )
 
 pub IsPlain-certificate : (c : Certificate) → IsWritable c → IsPlain (certificate_json c)
-IsPlain-certificate c h = plain_members (version_for c.tree) c.nodes c.relations c.claim c.tree c.scenario h
+IsPlain-certificate c h = plain_members c.nodes c.relations c.claim c.tree c.scenario h
 
 -- ---- nesting
 

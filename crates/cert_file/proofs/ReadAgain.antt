@@ -10,7 +10,7 @@ use Rattle.network_words.specs.declared.TheConstants.{MAX_NODES}
 use Rattle.qsr_lex.specs.Names.{is_name}
 use Rattle.serde_json.specs.Data.{Data, string, object}
 use Rattle.serde_json.specs.Find.{get}
-use Rattle.refutation.specs.Tree.{NodeSteps, sweep, listed, TreeNode, leaf_node}
+use Rattle.refutation.specs.Tree.{NodeSteps, sweep, listed, TreeNode, leaf_node, IsBareLeaf, HasBareLeaves}
 use Rattle.refutation.specs.declared.tree.Kind.{Kind}
 use Rattle.refutation.specs.declared.tree.Kind.TheVariants.{Empty, Found, Open, Later, Split}
 use Rattle.refutation.specs.declared.tree.Step.{Step}
@@ -18,7 +18,7 @@ use Rattle.cert_file.specs.Certificate.{Certificate}
 use Rattle.cert_file.specs.Parts.{number_below, name_of, values, list_of, step_of}
 use Rattle.cert_file.specs.Nodes.{steps_of, node_of}
 use Rattle.cert_file.specs.Fields.{version_of, nodes_of, relations_of, claim_name, claim_of, scenario_of, tree_of, keys_of, certificate_of, certificate_with}
-use Rattle.cert_file.specs.Written.{number_json, list_json, step_json, steps_json, node_json, is_swept, is_swept_node, version_for, version_number, certificate_members, certificate_json, AreBelow, IsStepOfNumbers, AreStepsOfNumbers, IsWritableNode, IsScenarioFor, IsWritable}
+use Rattle.cert_file.specs.Written.{number_json, list_json, step_json, steps_json, node_json, is_swept, is_swept_node, version_for, version_number, certificate_members, certificate_json, AreBelow, IsStepOfNumbers, AreStepsOfNumbers, IsNodeOfNumbers, IsTreeOfNumbers, AreBaseNumbers, IsScenarioFor, IsWritable}
 use Rattle.cert_file.specs.declared.claim.Claim.{Claim}
 use Rattle.cert_file.specs.declared.claim.Claim.TheVariants.{Yes, No, Budget}
 use Rattle.cert_file.specs.declared.claim.Version.{Version}
@@ -51,7 +51,7 @@ name-json name h = rw h refl
 step-json : (step : Step) → IsStepOfNumbers step → step_of (step_json step) ≡ Ok step
 step-json step h = rw (below-json (2 ^ 32) step.i h.i, below-json (2 ^ 32) step.j h.j, below-json (2 ^ 32) step.k h.k) refl
 
-steps-json : (steps : NodeSteps) → AreStepsOfNumbers steps → steps_of (steps_json steps) ≡ Ok steps
+steps-json : (steps : NodeSteps) → AreStepsOfNumbers Two steps → steps_of (steps_json steps) ≡ Ok steps
 steps-json sweep h = refl
 steps-json (listed steps) h = rw (list_of-json step_of step_json steps (λ k d inside. step-json _ (h k d inside))) refl
 
@@ -66,19 +66,19 @@ abbrev node_with : Kind → ℕ → ℕ → List ℕ → List ℕ → NodeSteps 
 node_with kind i j parts children steps = record { kind = kind; i = i; j = j; parts = parts; children = children; steps = steps }
 
 node-json : (version : Version) (kind : Kind) (i j : ℕ) (parts children : List ℕ) (steps : NodeSteps) →
-    IsWritableNode kind (node_with kind i j parts children steps) → Allows version steps →
+    IsBareLeaf kind (node_with kind i j parts children steps) → IsNodeOfNumbers version kind (node_with kind i j parts children steps) → Allows version steps →
     node_of version (node_json version (node_with kind i j parts children steps)) ≡ Ok (node_with kind i j parts children steps)
-node-json One Empty i j parts children steps h swept = sym (ap Ok (h.0 ∙ ap (leaf_node Empty) swept))
-node-json Two Empty i j parts children steps h _ = rw (steps-json steps h.1) (sym (ap Ok h.0))
-node-json One Found i j parts children steps h _ = sym (ap Ok h)
-node-json Two Found i j parts children steps h _ = sym (ap Ok h)
-node-json One Open i j parts children steps h _ = sym (ap Ok h)
-node-json Two Open i j parts children steps h _ = sym (ap Ok h)
-node-json One Later i j parts children steps h _ = sym (ap Ok h)
-node-json Two Later i j parts children steps h _ = sym (ap Ok h)
-node-json One Split i j parts children steps h swept =
+node-json One Empty i j parts children steps bare h swept = sym (ap Ok (bare ∙ ap (leaf_node Empty) swept))
+node-json Two Empty i j parts children steps bare h _ = rw (steps-json steps h) (sym (ap Ok bare))
+node-json One Found i j parts children steps bare h _ = sym (ap Ok bare)
+node-json Two Found i j parts children steps bare h _ = sym (ap Ok bare)
+node-json One Open i j parts children steps bare h _ = sym (ap Ok bare)
+node-json Two Open i j parts children steps bare h _ = sym (ap Ok bare)
+node-json One Later i j parts children steps bare h _ = sym (ap Ok bare)
+node-json Two Later i j parts children steps bare h _ = sym (ap Ok bare)
+node-json One Split i j parts children steps bare h swept =
     rw (below-json (2 ^ 32) i h.i, below-json (2 ^ 32) j h.j, numbers-json (2 ^ 64) parts h.parts, numbers-json (2 ^ 32) children h.children, swept) refl
-node-json Two Split i j parts children steps h _ =
+node-json Two Split i j parts children steps bare h _ =
     rw (below-json (2 ^ 32) i h.i, below-json (2 ^ 32) j h.j, numbers-json (2 ^ 64) parts h.parts, numbers-json (2 ^ 32) children h.children, steps-json steps h.steps) refl
 
 swept_steps : (steps : NodeSteps) → is_swept steps ≡ true → steps ≡ sweep
@@ -89,10 +89,11 @@ allowed : (swept : Bool) (tree : List TreeNode) → list_all is_swept_node tree 
 allowed true tree h = λ k d inside. swept_steps _ (AllPass-from_list_all is_swept_node tree h k d inside)
 allowed false tree h = λ k d inside. tt
 
-tree-json : (tree : List TreeNode) → All (λ node. IsWritableNode node.kind node) tree → list_of (node_of (version_for tree)) (list_json (node_json (version_for tree)) tree) ≡ Ok tree
-tree-json tree h =
+tree-json : (tree : List TreeNode) → HasBareLeaves tree → IsTreeOfNumbers (version_for tree) tree →
+    list_of (node_of (version_for tree)) (list_json (node_json (version_for tree)) tree) ≡ Ok tree
+tree-json tree bare h =
     list_of-json (node_of (version_for tree)) (node_json (version_for tree)) tree
-    (λ k d inside. node-json (version_for tree) _ _ _ _ _ _ (h k d inside) (allowed (list_all is_swept_node tree) tree refl k d inside))
+    (λ k d inside. node-json (version_for tree) _ _ _ _ _ _ (bare k d inside) (h k d inside) (allowed (list_all is_swept_node tree) tree refl k d inside))
 
 -- ---- keys
 
@@ -114,16 +115,16 @@ claim-read d Yes e = rw e refl
 claim-read d No e = rw e refl
 claim-read d Budget e = rw e refl
 
-tree-read : (d : Data) (tree : List TreeNode) → get (codes "tree") d ≡ Some (list_json (node_json (version_for tree)) tree) → All (λ node. IsWritableNode node.kind node) tree →
-    tree_of (version_for tree) d ≡ Ok tree
-tree-read d tree e h = rw (e, tree-json tree h) refl
+tree-read : (d : Data) (tree : List TreeNode) → get (codes "tree") d ≡ Some (list_json (node_json (version_for tree)) tree) → HasBareLeaves tree →
+    IsTreeOfNumbers (version_for tree) tree → tree_of (version_for tree) d ≡ Ok tree
+tree-read d tree e bare h = rw (e, tree-json tree bare h) refl
 
 scenario-read : (nodes : ℕ) (relations : List (List ℕ)) (claim : Claim) (scenario : Option (List ℕ)) (tree : List TreeNode) (version : Version) → IsScenarioFor claim scenario →
-    scenario_of claim (object (certificate_members version (certificate_with nodes relations claim scenario tree))) ≡ Ok scenario
-scenario-read nodes relations Yes None tree version h = absurd h
-scenario-read nodes relations Yes (Some bases) tree version h = rw (numbers-json (2 ^ 8) bases h) refl
-scenario-read nodes relations No scenario tree version h = sym (ap Ok h)
-scenario-read nodes relations Budget scenario tree version h = sym (ap Ok h)
+    AreBaseNumbers scenario → scenario_of claim (object (certificate_members version (certificate_with nodes relations claim scenario tree))) ≡ Ok scenario
+scenario-read nodes relations Yes None tree version there h = absurd there
+scenario-read nodes relations Yes (Some bases) tree version there h = rw (numbers-json (2 ^ 8) bases h) refl
+scenario-read nodes relations No scenario tree version there h = sym (ap Ok there)
+scenario-read nodes relations Budget scenario tree version there h = sym (ap Ok there)
 
 -- ---- the certificate
 
@@ -142,11 +143,11 @@ keys-read nodes relations claim scenario tree h e₁ e₂ e₃ e₄ e₅ =
     let d = value_of nodes relations claim scenario tree in
     rw (
       version-read d (version_for tree) e₁,
-      nodes-read d nodes e₂ h.some_nodes h.few_nodes,
-      relations-read d relations e₃ h.some_relations h.few_relations h.names,
+      nodes-read d nodes e₂ h.forms.some_nodes h.forms.few_nodes,
+      relations-read d relations e₃ h.forms.some_relations h.forms.few_relations h.forms.names,
       claim-read d claim e₄,
-      scenario-read nodes relations claim scenario tree (version_for tree) h.scenario,
-      tree-read d tree e₅ h.tree,
+      scenario-read nodes relations claim scenario tree (version_for tree) h.forms.scenario h.numbers.scenario,
+      tree-read d tree e₅ h.forms.leaves h.numbers.tree,
     ) refl
 
 fields-read : (nodes : ℕ) (relations : List (List ℕ)) (claim : Claim) (scenario : Option (List ℕ)) (tree : List TreeNode) →

@@ -13,14 +13,14 @@ use Rattle.serde_json.specs.Data.{Data}
 use Rattle.serde_json.specs.Find.{as_str, as_number, as_u64}
 use Rattle.line_files.specs.Steps.{◌>>=◌}
 use Rattle.line_files.proofs.Steps.{MatchResult-then}
-use Rattle.refutation.specs.Tree.{TreeNode}
+use Rattle.refutation.specs.Tree.{NodeSteps, TreeNode, IsBareLeaf}
 use Rattle.refutation.specs.declared.tree.Kind.{Kind}
 use Rattle.refutation.specs.declared.tree.Kind.TheVariants.{Empty, Found, Open, Later, Split}
 use Rattle.cert_file.specs.Certificate.{Certificate}
 use Rattle.cert_file.specs.Parts.{or_wrong, member_of, if_below, number_below, if_name, name_of, with_first, values, entries, entry, list_of, base_of, node_number, set_of, number_at, numbers_of_step, step_of}
 use Rattle.cert_file.specs.Nodes.{steps_listed, steps_or_list, steps_of, steps_at, kind_of, leaf_with, list_at, split_entries, node_of_kind, node_of}
 use Rattle.cert_file.specs.Fields.{at_key, version_of, if_some, nodes_of, if_few, relations_of, claim_of, some_bases, scenario_of, tree_of, keys_of, certificate_of}
-use Rattle.cert_file.specs.Written.{AreBelow, IsStepOfNumbers, AreStepsOfNumbers, IsWritableNode, IsScenarioFor, IsWritable}
+use Rattle.cert_file.specs.Written.{AreBelow, IsStepOfNumbers, AreStepsOfNumbers, IsNodeOfNumbers, AreBaseNumbers, version_for, IsScenarioFor, IsWritable}
 use Rattle.cert_file.specs.declared.claim.Claim.{Claim}
 use Rattle.cert_file.specs.declared.claim.Claim.TheVariants.{Yes, No, Budget}
 use Rattle.cert_file.specs.declared.claim.Version.{Version}
@@ -88,16 +88,19 @@ step d =
 
 -- ---- nodes
 
-steps_either : (text : Option (List ℕ)) (d : Data) → Gives (steps_or_list text d) AreStepsOfNumbers
-steps_either (Some text) d = if_holds AreStepsOfNumbers _ _ (At 0) (λ _. tt)
-steps_either None d = after (All IsStepOfNumbers) AreStepsOfNumbers (list_of step_of d) steps_listed (list step_of IsStepOfNumbers step d) (λ steps h. h)
+abbrev AreNumbered : NodeSteps → Type 0
+AreNumbered steps = AreStepsOfNumbers Two steps
 
-steps : (version : Version) (place : ℕ) (d : Data) → Gives (steps_at version place d) AreStepsOfNumbers
+steps_either : (text : Option (List ℕ)) (d : Data) → Gives (steps_or_list text d) AreNumbered
+steps_either (Some text) d = if_holds AreNumbered _ _ (At 0) (λ _. tt)
+steps_either None d = after (All IsStepOfNumbers) AreNumbered (list_of step_of d) steps_listed (list step_of IsStepOfNumbers step d) (λ steps h. h)
+
+steps : (version : Version) (place : ℕ) (d : Data) → Gives (steps_at version place d) AreNumbered
 steps One place d = tt
-steps Two place d = always AreStepsOfNumbers (entry place d) steps_of (λ e. steps_either (as_str e) e)
+steps Two place d = always AreNumbered (entry place d) steps_of (λ e. steps_either (as_str e) e)
 
 abbrev IsForm : TreeNode → Type 0
-IsForm node = IsWritableNode node.kind node
+IsForm node = IsBareLeaf node.kind node × IsNodeOfNumbers Two node.kind node
 
 split : (version : Version) (d : Data) → Gives (split_entries version d) IsForm
 split version d =
@@ -105,19 +108,31 @@ split version d =
     after (λ n. n < 2 ^ 32) IsForm (number_at 2 d) _ (node_at 2 d) (λ j q.
     after (AreBelow (2 ^ 64)) IsForm (list_at set_of 3 d) _ (always (AreBelow (2 ^ 64)) (entry 3 d) (list_of set_of) (numbers (2 ^ 64))) (λ parts r.
     after (AreBelow (2 ^ 32)) IsForm (list_at node_number 4 d) _ (always (AreBelow (2 ^ 32)) (entry 4 d) (list_of node_number) (numbers (2 ^ 32))) (λ children s.
-    after AreStepsOfNumbers IsForm (steps_at version 5 d) _ (steps version 5 d) (λ work t.
-    record { i = p; j = q; parts = r; children = s; steps = t })))))
+    after AreNumbered IsForm (steps_at version 5 d) _ (steps version 5 d) (λ work t.
+    (tt, record { i = p; j = q; parts = r; children = s; steps = t }))))))
 
 node_by_kind : (version : Version) (d : Data) (kind : Kind) → Gives (node_of_kind version d kind) IsForm
 node_by_kind version d Empty =
-    if_read IsForm _ (steps_at version 1 d >>= leaf_with) (At 0) (after AreStepsOfNumbers IsForm (steps_at version 1 d) leaf_with (steps version 1 d) (λ work h. (refl, h)))
-node_by_kind version d Found = if_holds IsForm _ _ (At 0) (λ _. refl)
-node_by_kind version d Open = if_holds IsForm _ _ (At 0) (λ _. refl)
-node_by_kind version d Later = if_holds IsForm _ _ (At 0) (λ _. refl)
+    if_read IsForm _ (steps_at version 1 d >>= leaf_with) (At 0) (after AreNumbered IsForm (steps_at version 1 d) leaf_with (steps version 1 d) (λ work h. (refl, h)))
+node_by_kind version d Found = if_holds IsForm _ _ (At 0) (λ _. (refl, tt))
+node_by_kind version d Open = if_holds IsForm _ _ (At 0) (λ _. (refl, tt))
+node_by_kind version d Later = if_holds IsForm _ _ (At 0) (λ _. (refl, tt))
 node_by_kind version d Split = if_read IsForm _ (split_entries version d) (At 0) (split version d)
 
 node : (version : Version) (d : Data) → Gives (node_of version d) IsForm
 node version d = always IsForm (entry 0 d >>= kind_of) (node_of_kind version d) (node_by_kind version d)
+
+-- what fits where steps are written fits where they aren't
+steps_fit : (version : Version) (steps : NodeSteps) → AreStepsOfNumbers Two steps → AreStepsOfNumbers version steps
+steps_fit One steps h = tt
+steps_fit Two steps h = h
+
+node_fits : (version : Version) (kind : Kind) (node : TreeNode) → IsNodeOfNumbers Two kind node → IsNodeOfNumbers version kind node
+node_fits version Empty node h = steps_fit version node.steps h
+node_fits version Found node h = tt
+node_fits version Open node h = tt
+node_fits version Later node h = tt
+node_fits version Split node h = record { i = h.i; j = h.j; parts = h.parts; children = h.children; steps = steps_fit version node.steps h.steps }
 
 -- ---- keys
 
@@ -147,12 +162,15 @@ relations d =
     let parts = and_parts (nat_le 1 (length names)) (nat_le (length names) MAX_BASES) b in
     record { some = leb-true 1 (length names) parts.0; few = leb-true (length names) MAX_BASES parts.1; named = list_all-from_AllPass is_name names h }))
 
-scenario : (claim : Claim) (d : Data) → Gives (scenario_of claim d) (IsScenarioFor claim)
+abbrev IsGiven : Claim → Option (List ℕ) → Type 0
+IsGiven claim scenario = IsScenarioFor claim scenario × AreBaseNumbers scenario
+
+scenario : (claim : Claim) (d : Data) → Gives (scenario_of claim d) (IsGiven claim)
 scenario Yes d =
-    after (AreBelow (2 ^ 8)) (IsScenarioFor Yes) (member_of (codes "scenario") d >>= list_of base_of) some_bases
-    (always (AreBelow (2 ^ 8)) (member_of (codes "scenario") d) (list_of base_of) (numbers (2 ^ 8))) (λ bases h. h)
-scenario No d = refl
-scenario Budget d = refl
+    after (AreBelow (2 ^ 8)) (IsGiven Yes) (member_of (codes "scenario") d >>= list_of base_of) some_bases
+    (always (AreBelow (2 ^ 8)) (member_of (codes "scenario") d) (list_of base_of) (numbers (2 ^ 8))) (λ bases h. (tt, h))
+scenario No d = (refl, tt)
+scenario Budget d = (refl, tt)
 
 tree : (version : Version) (d : Data) → Gives (tree_of version d) (All IsForm)
 tree version d = always (All IsForm) (member_of (codes "tree") d) (list_of (node_of version)) (list (node_of version) IsForm (node version))
@@ -163,16 +181,22 @@ keys d =
     after AreNodes IsWritable (at_key 1 (nodes_of d)) _ (keyed 1 AreNodes (nodes_of d) (node_count d)) (λ n p.
     after AreNames IsWritable (at_key 2 (relations_of d)) _ (keyed 2 AreNames (relations_of d) (relations d)) (λ names q.
     after (λ _. ⊤) IsWritable (at_key 5 (claim_of d)) _ (any _) (λ claim _.
-    after (IsScenarioFor claim) IsWritable (at_key 3 (scenario_of claim d)) _ (keyed 3 (IsScenarioFor claim) (scenario_of claim d) (scenario claim d)) (λ bases r.
+    after (IsGiven claim) IsWritable (at_key 3 (scenario_of claim d)) _ (keyed 3 (IsGiven claim) (scenario_of claim d) (scenario claim d)) (λ bases r.
     after (All IsForm) IsWritable (at_key 4 (tree_of version d)) _ (keyed 4 (All IsForm) (tree_of version d) (tree version d)) (λ nodes s.
     record {
-      some_nodes = p.0;
-      few_nodes = omega (arith, p.1);
-      some_relations = omega (arith, q.some);
-      few_relations = q.few;
-      names = q.named;
-      scenario = r;
-      tree = s;
+      forms = record {
+        some_nodes = p.0;
+        few_nodes = omega (arith, p.1);
+        some_relations = omega (arith, q.some);
+        few_relations = q.few;
+        names = q.named;
+        scenario = r.0;
+        leaves = λ k d inside. (s k d inside).0;
+      };
+      numbers = record {
+        scenario = r.1;
+        tree = λ k d inside. node_fits (version_for nodes) _ _ (s k d inside).1;
+      };
     }))))))
 
 pub IsWritable-read : (d : Data) (c : Certificate) → certificate_of d ≡ Ok c → IsWritable c

@@ -3,7 +3,8 @@ use Rattle.std.specs.Prelude.{◌≡◌, ◌≢◌, ℕ, ◌==◌, ◌++◌, Boo
 use Rattle.std.specs.List.{list_all}
 use Rattle.cert_file.specs.Certificate.{Certificate}
 use Rattle.cert_file.specs.Files.{IsFileOf, IsFaultOf}
-use Rattle.cert_file.specs.Written.{IsWritable, certificate_text}
+use Rattle.refutation.specs.Tree.{TreeNode, HasBareLeaves}
+use Rattle.cert_file.specs.Written.{HasForms, IsWritable, certificate_text}
 use Rattle.cert_file.specs.declared.fault.CertFault.{CertFault}
 use Rattle.cert_file.specs.declared.fault.CertFault.TheVariants.{Memory}
 
@@ -31,6 +32,11 @@ WrittenIsRead = (c : Certificate) → IsWritable c → IsFileOf (certificate_tex
 -- and what is read can be written
 abbrev pub ReadIsWritable : Type 0
 ReadIsWritable = (bytes : List ℕ) (c : Certificate) → IsFileOf bytes c → IsWritable c
+
+-- also with another tree whose leaves are bare
+abbrev pub ReadHasFormsWithTree : Type 0
+ReadHasFormsWithTree = (bytes : List ℕ) (c : Certificate) (tree : List TreeNode) → IsFileOf bytes c → HasBareLeaves tree →
+    HasForms (record c { tree = tree })
 
 -- a file is of one certificate at most
 abbrev pub FileIsOfOne : Type 0

@@ -7,7 +7,7 @@ use Rattle.serde_json.specs.Data.{Data, number, unsigned, string, array, object,
 use Rattle.serde_json.specs.View.{items_of}
 use Rattle.serde_json.specs.Written.{compact_text}
 use Rattle.qsr_lex.specs.Names.{is_name}
-use Rattle.refutation.specs.Tree.{NodeSteps, sweep, listed, TreeNode, leaf_node}
+use Rattle.refutation.specs.Tree.{NodeSteps, sweep, listed, TreeNode, HasBareLeaves}
 use Rattle.refutation.specs.declared.tree.Kind.{Kind}
 use Rattle.refutation.specs.declared.tree.Kind.TheVariants.{Empty, Found, Open, Later, Split}
 use Rattle.refutation.specs.declared.tree.Step.{Step}
@@ -96,6 +96,23 @@ certificate_text c = compact_text (certificate_json c) ++ codes "\n"
 
 -- ---- what can be written
 
+-- the scenario is there exactly where the claim is Yes
+abbrev pub IsScenarioFor : Claim → Option (List ℕ) → Type 0
+IsScenarioFor Yes (Some bases) = Unit {0}
+IsScenarioFor Yes None = ⊥
+IsScenarioFor No scenario = scenario ≡ None
+IsScenarioFor Budget scenario = scenario ≡ None
+
+-- a certificate has the forms that reading asks for, whatever its numbers are
+pub record HasForms (c : Certificate) : Type 0 where
+  pub some_nodes : 0 < c.nodes
+  pub few_nodes : c.nodes ≤ MAX_NODES
+  pub some_relations : 0 < length c.relations
+  pub few_relations : length c.relations ≤ MAX_BASES
+  pub names : list_all is_name c.relations ≡ true
+  pub scenario : IsScenarioFor c.claim c.scenario
+  pub leaves : HasBareLeaves c.tree
+
 abbrev pub AreBelow : ℕ → List ℕ → Type 0
 AreBelow limit ns = All (λ n. n < limit) ns
 
@@ -105,39 +122,42 @@ pub record IsStepOfNumbers (step : Step) : Type 0 where
   pub j : step.j < 2 ^ 32
   pub k : step.k < 2 ^ 32
 
-abbrev pub AreStepsOfNumbers : NodeSteps → Type 0
-AreStepsOfNumbers sweep = Unit {0}
-AreStepsOfNumbers (listed steps) = All IsStepOfNumbers steps
+-- so do those of the steps that a version writes
+abbrev pub AreStepsOfNumbers : Version → NodeSteps → Type 0
+AreStepsOfNumbers One steps = Unit {0}
+AreStepsOfNumbers Two sweep = Unit {0}
+AreStepsOfNumbers Two (listed steps) = All IsStepOfNumbers steps
 
 -- the numbers of a split fit 32 bits, and its parts 64
-pub record IsSplitOfNumbers (node : TreeNode) : Type 0 where
+pub record IsSplitOfNumbers (version : Version) (node : TreeNode) : Type 0 where
   pub i : node.i < 2 ^ 32
   pub j : node.j < 2 ^ 32
   pub parts : AreBelow (2 ^ 64) node.parts
   pub children : AreBelow (2 ^ 32) node.children
-  pub steps : AreStepsOfNumbers node.steps
+  pub steps : AreStepsOfNumbers version node.steps
 
--- a leaf has nothing beside its kind and steps, and no steps but for kind Empty
-abbrev pub IsWritableNode : Kind → TreeNode → Type 0
-IsWritableNode Empty node = (node ≡ leaf_node Empty node.steps) × AreStepsOfNumbers node.steps
-IsWritableNode Found node = node ≡ leaf_node Found sweep
-IsWritableNode Open node = node ≡ leaf_node Open sweep
-IsWritableNode Later node = node ≡ leaf_node Later sweep
-IsWritableNode Split node = IsSplitOfNumbers node
+-- so do the numbers that a version writes of a node
+abbrev pub IsNodeOfNumbers : Version → Kind → TreeNode → Type 0
+IsNodeOfNumbers version Empty node = AreStepsOfNumbers version node.steps
+IsNodeOfNumbers version Found node = Unit {0}
+IsNodeOfNumbers version Open node = Unit {0}
+IsNodeOfNumbers version Later node = Unit {0}
+IsNodeOfNumbers version Split node = IsSplitOfNumbers version node
 
--- the scenario is there where the claim is Yes, with base numbers below 2^8
-abbrev pub IsScenarioFor : Claim → Option (List ℕ) → Type 0
-IsScenarioFor Yes (Some bases) = AreBelow (2 ^ 8) bases
-IsScenarioFor Yes None = ⊥
-IsScenarioFor No scenario = scenario ≡ None
-IsScenarioFor Budget scenario = scenario ≡ None
+abbrev pub IsTreeOfNumbers : Version → List TreeNode → Type 0
+IsTreeOfNumbers version tree = All (λ node. IsNodeOfNumbers version node.kind node) tree
+
+-- base numbers fit 8 bits
+abbrev pub AreBaseNumbers : Option (List ℕ) → Type 0
+AreBaseNumbers None = Unit {0}
+AreBaseNumbers (Some bases) = AreBelow (2 ^ 8) bases
+
+-- the numbers that are written of a certificate fit the types of the code
+pub record HasNumbers (c : Certificate) : Type 0 where
+  pub scenario : AreBaseNumbers c.scenario
+  pub tree : IsTreeOfNumbers (version_for c.tree) c.tree
 
 -- a certificate that has a text
 pub record IsWritable (c : Certificate) : Type 0 where
-  pub some_nodes : 0 < c.nodes
-  pub few_nodes : c.nodes ≤ MAX_NODES
-  pub some_relations : 0 < length c.relations
-  pub few_relations : length c.relations ≤ MAX_BASES
-  pub names : list_all is_name c.relations ≡ true
-  pub scenario : IsScenarioFor c.claim c.scenario
-  pub tree : All (λ node. IsWritableNode node.kind node) c.tree
+  pub forms : HasForms c
+  pub numbers : HasNumbers c

@@ -1,7 +1,7 @@
 //! Writing certificates.
 //!
 //! The JSON value of a certificate is built, and `serde_json` writes it without spaces, with the keys in the order of
-//! their bytes. A line end comes last.
+//! their bytes. A line end comes last. Each number that is written fits its type, which reading asks for.
 ghost use Rattle.std.specs.Prelude.{◌≡◌, map, IfOk, OnOk, codes, ◌++◌, ◌∷◌};
 ghost use Rattle.std.specs.List.{list_all};
 ghost use Rattle.std.specs.String.{string_bytes};
@@ -13,6 +13,9 @@ ghost use Rattle.cert_file.specs.Fields.{claim_name};
 ghost use Rattle.cert_file.specs.Written.{number_json, list_json, steps_json, steps_entries, node_entries, node_json};
 ghost use Rattle.cert_file.specs.Written.{version_for, put_scenario};
 ghost use Rattle.cert_file.specs.Written.{is_swept, is_swept_node, version_number, certificate_json, certificate_text};
+ghost use Rattle.cert_file.specs.Written.{HasForms, AreStepsOfNumbers, IsSplitOfNumbers, IsNodeOfNumbers};
+ghost use Rattle.cert_file.specs.Written.{IsTreeOfNumbers, AreBaseNumbers, HasNumbers};
+ghost use Rattle.cert_file.specs.Files.{IsFileOf};
 
 use crate::claim::{Cert, Claim, Version};
 use crate::json_values::{ToJson, list_value};
@@ -22,17 +25,19 @@ use scenario::Scenario;
 use serde_json::{Map, Value, put};
 use std::alloc::{AllocError, Global};
 
-/// The text of a certificate: a line of JSON, with its line end. It is read again where the certificate has the forms
-/// that reading asks for, as those have that a search or `read` makes.
+/// The text of a certificate: a line of JSON, with its line end. It is a file of the certificate where that has the
+/// forms that reading asks for, as those have that a search or `read` makes.
 pub fn text(alloc: Global, cert: &Cert) -> Result<String, Memory>
-    ensures { IfOk result (λ text. string_bytes text ≡ certificate_text cert.now) }
+    ensures text { IfOk result (λ text. string_bytes text ≡ certificate_text cert.now) }
+    ensures file { IfOk result (λ text. HasForms cert.now → IsFileOf (string_bytes text) cert.now) }
 {
     line(alloc, cert).map_err(|_| Memory)
 }
 
 /// The line.
 fn line(alloc: Global, cert: &Cert) -> Result<String, AllocError>
-    ensures { IfOk result (λ text. string_bytes text ≡ certificate_text cert.now) }
+    ensures text { IfOk result (λ text. string_bytes text ≡ certificate_text cert.now) }
+    ensures file { IfOk result (λ text. HasForms cert.now → IsFileOf (string_bytes text) cert.now) }
 {
     let value = certificate_value(alloc, cert)?;
     let mut text = value.to_string(alloc)?;
@@ -42,7 +47,8 @@ fn line(alloc: Global, cert: &Cert) -> Result<String, AllocError>
 
 /// The JSON value of a certificate.
 fn certificate_value(alloc: Global, cert: &Cert) -> Result<Value, AllocError>
-    ensures { IfOk result (λ value. view value ≡ certificate_json cert.now) }
+    ensures value { IfOk result (λ value. view value ≡ certificate_json cert.now) }
+    ensures numbers { IfOk result (λ _. HasNumbers cert.now) }
 {
     let version = version_for(&cert.tree.nodes);
     let mut members = Map::new(alloc);
@@ -76,8 +82,9 @@ fn put_scenario(
     scenario: &Option<Scenario>,
     members: &mut Map<String, Value>,
 ) -> Result<(), AllocError>
-    ensures { OnOk result (members_view members.new.entries
+    ensures value { OnOk result (members_view members.new.entries
         ≡ put_scenario scenario.now (members_view members.old.entries)) }
+    ensures numbers { OnOk result (AreBaseNumbers scenario.now) }
 {
     if let Some(scenario) = scenario {
         let bases = list_value(alloc, &scenario.bases)?;
@@ -156,7 +163,8 @@ fn claim_name(claim: Claim) -> &'static str
 
 /// The JSON value of a tree.
 fn tree_value(alloc: Global, version: Version, nodes: &[Node]) -> Result<Value, AllocError>
-    ensures { IfOk result (λ value. view value ≡ list_json (node_json version) nodes.now) }
+    ensures value { IfOk result (λ value. view value ≡ list_json (node_json version) nodes.now) }
+    ensures numbers { IfOk result (λ _. IsTreeOfNumbers version nodes.now) }
 {
     let mut values = Vec::new(alloc);
     for node in nodes {
@@ -168,7 +176,8 @@ fn tree_value(alloc: Global, version: Version, nodes: &[Node]) -> Result<Value, 
 
 /// The JSON value of a node.
 fn node_value(alloc: Global, version: Version, node: &Node) -> Result<Value, AllocError>
-    ensures { IfOk result (λ value. view value ≡ node_json version node.now) }
+    ensures value { IfOk result (λ value. view value ≡ node_json version node.now) }
+    ensures numbers { IfOk result (λ _. IsNodeOfNumbers version node.now.kind node.now) }
 {
     let mut entries = Vec::new(alloc);
     entries.push(Value::try_from_str(alloc, kind_name(node.kind))?)?;
@@ -200,8 +209,9 @@ fn push_split(
     node: &Node,
     entries: &mut Vec<Value>,
 ) -> Result<(), AllocError>
-    ensures { OnOk result (map view entries.new.items
+    ensures value { OnOk result (map view entries.new.items
         ≡ map view entries.old.items ++ node_entries version Kind.Split node.now) }
+    ensures numbers { OnOk result (IsSplitOfNumbers version node.now) }
 {
     entries.push(Value::from(node.i))?;
     entries.push(Value::from(node.j))?;
@@ -217,8 +227,9 @@ fn push_steps(
     steps: &Steps,
     entries: &mut Vec<Value>,
 ) -> Result<(), AllocError>
-    ensures { OnOk result (map view entries.new.items
+    ensures value { OnOk result (map view entries.new.items
         ≡ map view entries.old.items ++ steps_entries version (node_steps steps.now)) }
+    ensures numbers { OnOk result (AreStepsOfNumbers version (node_steps steps.now)) }
 {
     match version {
         Version::One => Ok(()),
@@ -231,7 +242,8 @@ fn push_steps(
 
 /// The JSON value of steps.
 fn steps_value(alloc: Global, steps: &Steps) -> Result<Value, AllocError>
-    ensures { IfOk result (λ value. view value ≡ steps_json (node_steps steps.now)) }
+    ensures value { IfOk result (λ value. view value ≡ steps_json (node_steps steps.now)) }
+    ensures numbers { IfOk result (λ _. AreStepsOfNumbers Version.Two (node_steps steps.now)) }
 {
     match steps {
         Steps::Sweep => Value::try_from_str(alloc, "sweep"),

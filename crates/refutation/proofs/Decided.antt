@@ -24,7 +24,7 @@ use Rattle.refutation.proofs.Forests.{tree_of-formed}
 
 -- ---- what is decided
 
-abbrev Decided : Type 0 → Type 0
+abbrev pub Decided : Type 0 → Type 0
 Decided P = P ⊎ (¬ P)
 
 both : {P Q : Type 0} → Decided P → Decided Q → Decided (P × Q)
@@ -169,7 +169,7 @@ module _ (n : ℕ) (nodes : List TreeNode) where
 
 -- ---- networks
 
-contains_empty : (words : List ℕ) → Decided (Contains words 0)
+pub contains_empty : (words : List ℕ) → Decided (Contains words 0)
 contains_empty words = elim (each_or_first (length words) (λ k. slice_index words k ≢ 0) (λ k. differs (slice_index words k) 0)) [
   | inl none ↦ inr (λ c. none c.0 c.1 c.2)
   | inr first ↦ elim (cases_eq (slice_index words first.at) 0) [ inl e ↦ inl (first.at, first.below, e) | inr n ↦ absurd (first.here n) ]

@@ -125,7 +125,7 @@ mutual
       let part = head-same _ _ _ _ p in
       (λ k. branch (part k) (first.0 k) (more.0 k), more.1)
 
-tree-one : (n : ℕ) (nodes : List TreeNode) (t u : NestedTree) → StandsFor n nodes t → StandsFor n nodes u → t ≡ u
+pub tree-one : (n : ℕ) (nodes : List TreeNode) (t u : NestedTree) → StandsFor n nodes t → StandsFor n nodes u → t ≡ u
 tree-one n nodes t u p q =
     (preorder-one n 0 t u [] [] p.is_tree q.is_tree (append-nil (preorder 0 t) ∙ sym p.nodes_are ∙ q.nodes_are ∙ sym (append-nil (preorder 0 u)))).0
 

@@ -1,6 +1,7 @@
 pub mod Worked
 pub mod NoScenarios
 pub mod Pendings
+pub mod BareLeaves
 pub mod Forests
 pub mod Counts
 pub mod Trails
@@ -11,3 +12,9 @@ pub mod Firsts
 pub mod Numbered
 pub mod Exact
 pub mod Decided
+pub mod RuledSteps
+pub mod TracedTrees
+pub mod StepLists
+pub mod Passes
+pub mod Tracings
+pub mod TracedLaws

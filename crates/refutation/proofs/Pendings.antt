@@ -75,7 +75,7 @@ append-nil (x ∷ xs) = ap (λ ys. x ∷ ys) (append-nil xs)
 
 -- ---- branches as pending trees
 
-nodes_pending-of : (x : ℕ) (w : List ℕ) (e : ℕ) (branches : Branches) (rest : List Pending) →
+pub nodes_pending-of : (x : ℕ) (w : List ℕ) (e : ℕ) (branches : Branches) (rest : List Pending) →
     nodes_pending x (pending_of w e branches ++ rest) ≡ preorder_of_all x branches ++ nodes_pending (x + size_of_all branches) rest
 nodes_pending-of x w e no_branches rest = ap (λ k. nodes_pending k rest) (omega arith)
 nodes_pending-of x w e (branch part child more) rest =
@@ -273,6 +273,76 @@ module _ (m : Algebra) (n : ℕ) (words : List ℕ) (nodes : List TreeNode) (x :
 
 -- ---- the last node on the way
 
+-- whatever is known of what is pending
+module _ (m : Algebra) (n : ℕ) (nodes : List TreeNode) (P : List Pending → Type 0) (at : Entered) (way : List Entered) (w : List ℕ) (networks : List (List ℕ)) (node : TreeNode) (there : slice_get nodes at.node ≡ Some node) where
+  one-node : (other : TreeNode) → slice_get nodes at.node ≡ Some other → other ≡ node
+  one-node other e = let same : Some other ≡ Some node = sym e ∙ there in cc
+
+  -- where all its children were entered, the rest is pending of the nodes before it
+  pub way-finished : length (split_parts node) ≤ at.next → (pending : List Pending) → P pending → IsWay m n nodes (at ∷ way) (w ∷ networks) pending →
+      (rest : List Pending) × P rest × IsWay m n nodes way networks rest
+  way-finished l pending p is_way = (is_way.0, subst P (last is_way.1) p, is_way.2)
+    where
+      past : (xs : List ℕ) (k : ℕ) → length xs ≤ k → drop k xs ≡ []
+      past [] zero l = refl
+      past [] (suc k) l = refl
+      past (y ∷ ys) zero l = absurd (omega arith)
+      past (y ∷ ys) (suc k) l = past ys k (omega arith)
+
+      no-parts : (bs : Branches) (e : ℕ) → [] ≡ parts_of bs → pending_of w e bs ≡ []
+      no-parts no_branches e h = refl
+      no-parts (branch part child more) e h = absurd (let bad : [] ≡ part ∷ parts_of more = h in cc)
+
+      last : IsOnWay m n nodes at w pending is_way.0 → pending ≡ is_way.0
+      last on =
+          let same : on.node ≡ node = one-node on.node on.is_there in
+          let none : [] ≡ parts_of on.branches = sym (past (split_parts node) at.next l) ∙ ap (λ y. drop at.next (split_parts y)) (sym same) ∙ on.parts_are in
+          on.pending_is ∙ ap (λ ps. ps ++ is_way.0) (no-parts on.branches (edge_at n on.node.i on.node.j) none)
+
+  -- where a child wasn't entered yet, its tree is pending first
+  pub way-next : at.next < length (split_parts node) → (entered : Entered) → entered.node ≡ at.node → entered.next ≡ at.next + 1 → (pending : List Pending) → P pending →
+      IsWay m n nodes (at ∷ way) (w ∷ networks) pending →
+      (tree : NestedTree) × ((rest : List Pending)
+      × P (record { tree = tree; network = met_at w (edge_at n node.i node.j) (get_or (split_parts node) at.next 0) } ∷ rest) × IsWay m n nodes (entered ∷ way) (w ∷ networks) rest)
+  way-next l entered node_is next_is pending p is_way = by_branches on.branches parts (on.pending_is ∙ ap (λ (y : TreeNode). pending_of w (edge_at n y.i y.j) on.branches ++ is_way.0) same)
+    where
+      on : IsOnWay m n nodes at w pending is_way.0
+      on = is_way.1
+
+      same : on.node ≡ node
+      same = one-node on.node on.is_there
+
+      part : ℕ
+      part = get_or (split_parts node) at.next 0
+
+      parts : part ∷ drop (suc at.next) (split_parts node) ≡ parts_of on.branches
+      parts = sym (drop-cons (split_parts node) at.next 0 l) ∙ ap (λ y. drop at.next (split_parts y)) (sym same) ∙ on.parts_are
+
+      by_branches : (bs : Branches) → part ∷ drop (suc at.next) (split_parts node) ≡ parts_of bs → pending ≡ pending_of w (edge_at n node.i node.j) bs ++ is_way.0 →
+          (tree : NestedTree) × ((rest : List Pending) × P (record { tree = tree; network = met_at w (edge_at n node.i node.j) part } ∷ rest) × IsWay m n nodes (entered ∷ way) (w ∷ networks) rest)
+      by_branches no_branches e h = absurd (let bad : part ∷ drop (suc at.next) (split_parts node) ≡ [] = e in cc)
+      by_branches (branch q child more) e h =
+          let front : part ≡ q = head-same _ _ _ _ e in
+          let rest = pending_of w (edge_at n node.i node.j) more ++ is_way.0 in (
+            child,
+            (
+              rest,
+              subst P (h ∙ ap (λ r. record { tree = child; network = met_at w (edge_at n node.i node.j) r } ∷ rest) (sym front)) p,
+              (
+                is_way.0,
+                record {
+                  node = node;
+                  is_there = subst (λ k. slice_get nodes k ≡ Some node) (sym node_is) there;
+                  network = on.network;
+                  branches = more;
+                  parts_are = ap (λ k. drop k (split_parts node)) (next_is ∙ add-one at.next) ∙ tail-same _ _ _ _ e;
+                  pending_is = refl;
+                },
+                is_way.2,
+              ),
+            ),
+          )
+
 module _ (m : Algebra) (n : ℕ) (words : List ℕ) (nodes : List TreeNode) (x : ℕ) where
   -- there is one, where nodes are left
   pub standing-left : (networks : List (List ℕ)) → x < length nodes → IsStanding m n words nodes x [] networks → ⊥
@@ -294,70 +364,15 @@ module _ (m : Algebra) (n : ℕ) (words : List ℕ) (nodes : List TreeNode) (x :
   standing-networks at way s = s.is_way
 
   module _ (at : Entered) (way : List Entered) (w : List ℕ) (networks : List (List ℕ)) (node : TreeNode) (there : slice_get nodes at.node ≡ Some node) where
-    one-node : (other : TreeNode) → slice_get nodes at.node ≡ Some other → other ≡ node
-    one-node other e = let same : Some other ≡ Some node = sym e ∙ there in cc
-
     -- all its children were entered
     pub standing-finished : length (split_parts node) ≤ at.next → IsStanding m n words nodes x (at ∷ way) (w ∷ networks) → IsStanding m n words nodes x way networks
-    standing-finished l s = record {
-      pending = s.is_way.0;
-      are_pending = subst (ArePending m n words nodes x) (last s.is_way.1) s.are_pending;
-      is_way = s.is_way.2;
-    }
-      where
-        past : (xs : List ℕ) (k : ℕ) → length xs ≤ k → drop k xs ≡ []
-        past [] zero l = refl
-        past [] (suc k) l = refl
-        past (y ∷ ys) zero l = absurd (omega arith)
-        past (y ∷ ys) (suc k) l = past ys k (omega arith)
-
-        no-parts : (bs : Branches) (e : ℕ) → [] ≡ parts_of bs → pending_of w e bs ≡ []
-        no-parts no_branches e h = refl
-        no-parts (branch part child more) e h = absurd (let bad : [] ≡ part ∷ parts_of more = h in cc)
-
-        last : IsOnWay m n nodes at w s.pending s.is_way.0 → s.pending ≡ s.is_way.0
-        last on =
-            let same : on.node ≡ node = one-node on.node on.is_there in
-            let none : [] ≡ parts_of on.branches = sym (past (split_parts node) at.next l) ∙ ap (λ y. drop at.next (split_parts y)) (sym same) ∙ on.parts_are in
-            on.pending_is ∙ ap (λ ps. ps ++ s.is_way.0) (no-parts on.branches (edge_at n on.node.i on.node.j) none)
+    standing-finished l s =
+        let left = way-finished m n nodes (ArePending m n words nodes x) at way w networks node there l s.pending s.are_pending s.is_way in
+        record { pending = left.0; are_pending = left.1; is_way = left.2 }
 
     -- a child wasn't entered yet
     pub visiting-next : at.next < length (split_parts node) → (entered : Entered) → entered.node ≡ at.node → entered.next ≡ at.next + 1 → IsStanding m n words nodes x (at ∷ way) (w ∷ networks) →
         IsVisiting m n words nodes x (met_at w (edge_at n node.i node.j) (get_or (split_parts node) at.next 0)) (entered ∷ way) (w ∷ networks)
-    visiting-next l entered node_is next_is s = by_branches on.branches parts (on.pending_is ∙ ap (λ (y : TreeNode). pending_of w (edge_at n y.i y.j) on.branches ++ s.is_way.0) same)
-      where
-        on : IsOnWay m n nodes at w s.pending s.is_way.0
-        on = s.is_way.1
-
-        same : on.node ≡ node
-        same = one-node on.node on.is_there
-
-        part : ℕ
-        part = get_or (split_parts node) at.next 0
-
-        parts : part ∷ drop (suc at.next) (split_parts node) ≡ parts_of on.branches
-        parts = sym (drop-cons (split_parts node) at.next 0 l) ∙ ap (λ y. drop at.next (split_parts y)) (sym same) ∙ on.parts_are
-
-        by_branches : (bs : Branches) → part ∷ drop (suc at.next) (split_parts node) ≡ parts_of bs → s.pending ≡ pending_of w (edge_at n node.i node.j) bs ++ s.is_way.0 →
-            IsVisiting m n words nodes x (met_at w (edge_at n node.i node.j) part) (entered ∷ way) (w ∷ networks)
-        by_branches no_branches e h = absurd (let bad : part ∷ drop (suc at.next) (split_parts node) ≡ [] = e in cc)
-        by_branches (branch p child more) e h =
-            let front : part ≡ p = head-same _ _ _ _ e in
-            let rest = pending_of w (edge_at n node.i node.j) more ++ s.is_way.0 in
-            record {
-              tree = child;
-              rest = rest;
-              are_pending = subst (ArePending m n words nodes x) (h ∙ ap (λ q. record { tree = child; network = met_at w (edge_at n node.i node.j) q } ∷ rest) (sym front)) s.are_pending;
-              is_way = (
-                s.is_way.0,
-                record {
-                  node = node;
-                  is_there = subst (λ k. slice_get nodes k ≡ Some node) (sym node_is) there;
-                  network = on.network;
-                  branches = more;
-                  parts_are = ap (λ k. drop k (split_parts node)) (next_is ∙ add-one at.next) ∙ tail-same _ _ _ _ e;
-                  pending_is = refl;
-                },
-                s.is_way.2,
-              );
-            }
+    visiting-next l entered node_is next_is s =
+        let next = way-next m n nodes (ArePending m n words nodes x) at way w networks node there l entered node_is next_is s.pending s.are_pending s.is_way in
+        record { tree = next.0; rest = next.1.0; are_pending = next.1.1; is_way = next.1.2 }

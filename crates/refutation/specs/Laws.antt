@@ -1,13 +1,17 @@
 -- What holds of trees that refute a network.
-use Rattle.std.specs.Prelude.{◌≡◌, ◌≢◌, ℕ, ◌⊎◌, List}
+use Rattle.std.specs.Prelude.{◌≡◌, ◌≢◌, ℕ, ◌⊎◌, List, length, map, All}
 use Rattle.calculus_table.specs.Algebra.{Algebra}
 use Rattle.calculus_table.specs.Calculus.{IsCalculus}
 use Rattle.network_words.specs.Network.{IsNetwork}
 use Rattle.network_words.specs.Scenario.{IsScenario}
-use Rattle.refutation.specs.Tree.{TreeNode}
+use Rattle.network_words.specs.Closure.{IsClosure}
+use Rattle.refutation.specs.Tree.{TreeNode, sweep, bare, HasBareLeaves}
 use Rattle.refutation.specs.declared.fault.TreeFault.{TreeFault}
 use Rattle.refutation.specs.declared.fault.TreeFault.TheVariants.{Memory}
-use Rattle.refutation.specs.Refutes.{IsRefutation}
+use Rattle.refutation.specs.declared.tree.Step.{Step}
+use Rattle.refutation.specs.Refutes.{after_steps, IsRefutation}
+use Rattle.refutation.specs.RuledSteps.{AreRuledSteps}
+use Rattle.refutation.specs.Traced.{IsTracedOf}
 use Rattle.refutation.specs.TreeFault.{IsFaultOf}
 
 -- a network that a tree refutes has no scenario
@@ -39,3 +43,49 @@ abbrev pub RefutationOrFault : Type 0
 RefutationOrFault =
     (m : Algebra) (n : ℕ) (words : List ℕ) (nodes : List TreeNode) → IsCalculus m → IsNetwork m n words →
     IsRefutation m n words nodes ⊎ Fault m n words nodes
+
+-- the nodes of a search, each of which sweeps and holds nothing beside as a leaf, have bare leaves
+abbrev pub SweptLeavesAreBare : Type 0
+SweptLeavesAreBare = (nodes : List TreeNode) → All (λ node. node.steps ≡ sweep) nodes → map bare nodes ≡ nodes → HasBareLeaves nodes
+
+-- ---- ruled steps
+
+-- a network has ruled steps
+abbrev pub RuledStepsExist : Type 0
+RuledStepsExist = (m : Algebra) (n : ℕ) (words : List ℕ) → (steps : List Step) × AreRuledSteps m n words steps
+
+-- and no others
+abbrev pub RuledStepsAreOne : Type 0
+RuledStepsAreOne =
+    (m : Algebra) (n : ℕ) (words : List ℕ) (xs ys : List Step) → AreRuledSteps m n words xs → AreRuledSteps m n words ys → xs ≡ ys
+
+-- they lead to the closure
+abbrev pub RuledStepsLeadToClosure : Type 0
+RuledStepsLeadToClosure =
+    (m : Algebra) (n : ℕ) (words : List ℕ) (steps : List Step) → IsCalculus m → IsNetwork m n words → AreRuledSteps m n words steps →
+    IsClosure m n words (after_steps m n words steps)
+
+-- ---- traced trees
+
+-- the traced tree of a tree that refutes a network refutes it too
+abbrev pub TracedTreeRefutes : Type 0
+TracedTreeRefutes =
+    (m : Algebra) (n : ℕ) (words : List ℕ) (nodes traced : List TreeNode) → IsCalculus m → IsNetwork m n words →
+    IsRefutation m n words nodes → IsTracedOf m n words nodes traced → IsRefutation m n words traced
+
+-- none of its nodes sweeps
+abbrev pub TracedTreeHasNoSweep : Type 0
+TracedTreeHasNoSweep =
+    (m : Algebra) (n : ℕ) (words : List ℕ) (nodes traced : List TreeNode) → IsCalculus m → IsTracedOf m n words nodes traced →
+    All (λ node. node.steps ≢ sweep) traced
+
+-- its leaves are bare
+abbrev pub TracedTreeHasBareLeaves : Type 0
+TracedTreeHasBareLeaves =
+    (m : Algebra) (n : ℕ) (words : List ℕ) (nodes traced : List TreeNode) → IsCalculus m → IsTracedOf m n words nodes traced →
+    HasBareLeaves traced
+
+-- and it has as many nodes
+abbrev pub TracedTreeHasAsManyNodes : Type 0
+TracedTreeHasAsManyNodes =
+    (m : Algebra) (n : ℕ) (words : List ℕ) (nodes traced : List TreeNode) → IsTracedOf m n words nodes traced → length traced ≡ length nodes

@@ -6,4 +6,8 @@ pub mod Ends
 pub mod Networks
 pub mod Ways
 pub mod Stacks
+pub mod RuledSteps
+pub mod Traced
+pub mod Passes
+pub mod Tracings
 pub mod Laws

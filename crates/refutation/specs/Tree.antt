@@ -45,6 +45,17 @@ leaf_node kind steps = record { kind = kind; i = 0; j = 0; parts = []; children 
 abbrev pub bare : TreeNode → TreeNode
 bare node = if is_split node then node else leaf_node node.kind node.steps
 
+-- a leaf holds nothing beside its kind and its steps, and says sweep where it isn't of kind Empty
+abbrev pub IsBareLeaf : Kind → TreeNode → Type 0
+IsBareLeaf Empty node = node ≡ leaf_node Empty node.steps
+IsBareLeaf Found node = node ≡ leaf_node Found sweep
+IsBareLeaf Open node = node ≡ leaf_node Open sweep
+IsBareLeaf Later node = node ≡ leaf_node Later sweep
+IsBareLeaf Split node = Unit {0}
+
+abbrev pub HasBareLeaves : List TreeNode → Type 0
+HasBareLeaves nodes = All (λ node. IsBareLeaf node.kind node) nodes
+
 -- the steps are of three different nodes each
 abbrev pub AreSteps : ℕ → NodeSteps → Type 0
 AreSteps n sweep = Unit {0}

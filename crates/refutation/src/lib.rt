@@ -17,13 +17,16 @@ mod fault;
 mod forms;
 mod laws;
 mod networks;
+mod ruling;
 mod stepped;
 #[cfg(test)]
 mod tests;
+mod tracing;
 mod tree;
 mod walking;
 
 pub use checking::check;
 pub use fault::TreeFault;
-pub use laws::laws_of_refutations;
+pub use laws::{laws_of_refutations, laws_of_traced_trees};
+pub use tracing::trace;
 pub use tree::{Kind, Node, Step, Steps, Tree};

@@ -4,13 +4,14 @@
 //! the last first. A step costs one composition. A network that is closed is closed from scratch.
 
 ghost use Rattle.std.specs.Prelude.{◌≡◌, ◌<◌, All, OnOk, length, slice_set};
-ghost use Rattle.network_words.specs.Edge.{edge_count, IsProperTriple};
+ghost use Rattle.network_words.specs.Edge.{edge_count, edge_between, IsProperTriple};
 ghost use Rattle.network_words.specs.Network.{IsNetwork};
 ghost use Rattle.refutation.specs.Tree.{AreSteps};
 ghost use Rattle.refutation.specs.Steps.{node_steps};
 ghost use Rattle.refutation.specs.Refutes.{after_step, after_steps, IsWorked};
 ghost use Rattle.refutation.specs.Networks.{restored, KeepsTrail};
 
+use crate::ruling::rule;
 use crate::tree::{Step, Steps};
 use calculus_table::{Compose, Memory, Rel, lawful};
 use closure_seq::close;
@@ -29,7 +30,12 @@ pub(crate) struct Replaced {
 }
 
 /// Replaces the set of an edge.
-fn replace(net: &mut Net, trail: &mut Vec<Replaced>, edge: u32, rel: Rel) -> Result<(), Memory>
+pub(crate) fn replace(
+    net: &mut Net,
+    trail: &mut Vec<Replaced>,
+    edge: u32,
+    rel: Rel,
+) -> Result<(), Memory>
     requires below { edge < edge_count net.old.nodes }
     ensures words { OnOk result
         (net.new ≡ record net.old { words = slice_set net.old.words edge rel }) }
@@ -45,6 +51,21 @@ fn replace(net: &mut Net, trail: &mut Vec<Replaced>, edge: u32, rel: Rel) -> Res
     Ok(())
 }
 
+/// The set of a step's edge after the step.
+pub(crate) fn set_after(net: &Net, c: &Fast, step: &Step) -> Rel
+    requires network { IsNetwork c.now net.now.nodes net.now.words }
+    requires proper { IsProperTriple net.now.nodes step.now.i step.now.j step.now.k }
+    ensures { after_step c.now net.now.nodes net.now.words step.now
+        ≡ slice_set net.now.words (edge_between net.now.nodes step.now.i step.now.k) result }
+{
+    lawful(c);
+    let first = net.get(c, step.i, step.j);
+    let second = net.get(c, step.j, step.k);
+    let composed = oriented(c, step.i, step.k, c.compose(first, second));
+    let edge = edge_between(net.nodes(), step.i, step.k);
+    net.word(edge).meet(composed)
+}
+
 /// Takes a step.
 fn take_step(net: &mut Net, trail: &mut Vec<Replaced>, c: &Fast, step: &Step) -> Result<(), Memory>
     requires network { IsNetwork c.now net.old.nodes net.old.words }
@@ -56,13 +77,9 @@ fn take_step(net: &mut Net, trail: &mut Vec<Replaced>, c: &Fast, step: &Step) ->
         (KeepsTrail net.old.nodes net.old.words trail.old.items net.new.words trail.new.items) }
     ensures nodes { net.new.nodes ≡ net.old.nodes }
 {
-    lawful(c);
-    let first = net.get(c, step.i, step.j);
-    let second = net.get(c, step.j, step.k);
-    let composed = oriented(c, step.i, step.k, c.compose(first, second));
     let edge = edge_between(net.nodes(), step.i, step.k);
-    let narrowed = net.word(edge).meet(composed);
-    replace(net, trail, edge, narrowed)
+    let set = set_after(net, c, step);
+    replace(net, trail, edge, set)
 }
 
 /// Takes the steps, the first one first.
@@ -177,9 +194,11 @@ impl Stepped {
     ghost use Rattle.std.specs.Prelude.{false};
     ghost use Rattle.network_words.specs.Edge.{edge_count};
     ghost use Rattle.network_words.specs.Network.{IsNetwork};
-    ghost use Rattle.refutation.specs.Tree.{AreSteps};
+    ghost use Rattle.refutation.specs.Tree.{AreSteps, listed};
     ghost use Rattle.refutation.specs.Steps.{node_steps};
     ghost use Rattle.refutation.specs.Refutes.{IsWorked, met_at};
+    ghost use Rattle.refutation.specs.RuledSteps.{all_steps};
+    ghost use Rattle.refutation.specs.Passes.{AreStepsOf};
     ghost use Rattle.refutation.specs.Networks.{NetworkStack, IsStackOf};
 
     /// The one network that is worked from a given one.
@@ -204,6 +223,34 @@ impl Stepped {
             net,
             trails: Vec::new(alloc),
         })
+    }
+
+    /// The one network that the ruled steps lead to from a given one, with `cut` up to the first that leaves an empty
+    /// set. Returns the steps too.
+    pub(crate) fn new_ruled<C: Compose>(
+        alloc: Global,
+        net: &Net,
+        c: &C,
+        cut: bool,
+        all: &[Step],
+    ) -> Result<(Stepped, Vec<Step>), Memory>
+        requires network { IsNetwork (C.algebra c.now) net.now.nodes net.now.words }
+        requires all { all.now ≡ all_steps net.now.nodes }
+        ensures stack { IfOk result (λ ruled.
+            IsStackOf (C.algebra c.now) net.now.nodes net.now.words (listed ruled.1.items) ruled.0) }
+        ensures steps { IfOk result (λ ruled.
+            AreStepsOf cut (C.algebra c.now) net.now.nodes net.now.words ruled.1.items) }
+    {
+        let calculus = Fast::of(alloc, c)?;
+        let mut net = net.copy()?;
+        let mut trail = Vec::new(alloc);
+        let steps = rule(alloc, &mut net, &mut trail, &calculus, cut, all)?;
+        let stepped = Stepped {
+            calculus,
+            net,
+            trails: Vec::new(alloc),
+        };
+        Ok((stepped, steps))
     }
 
     /// The set of an edge of the top.
@@ -262,6 +309,39 @@ impl Stepped {
             return Err(Memory);
         };
         Ok(())
+    }
+
+    /// Pushes a network: the top with the set of an edge intersected with a part, and the ruled steps taken, with `cut`
+    /// up to the first that leaves an empty set. Returns the steps.
+    pub(crate) fn enter_ruled(
+        &mut self,
+        alloc: Global,
+        edge: u32,
+        part: Rel,
+        cut: bool,
+        all: &[Step],
+    ) -> Result<Vec<Step>, Memory>
+        requires below { edge < edge_count self.old.nodes }
+        requires network { IsNetwork self.old.algebra self.old.nodes self.old.top }
+        requires all { all.now ≡ all_steps self.old.nodes }
+        ensures worked { IfOk result (λ steps.
+            IsWorked self.old.algebra self.old.nodes (listed steps.items)
+            (met_at self.old.top edge part) self.new.top) }
+        ensures steps { IfOk result (λ steps. AreStepsOf cut self.old.algebra self.old.nodes
+            (met_at self.old.top edge part) steps.items) }
+        ensures stack { OnOk result (self.new ≡ record self.old {
+          top = self.new.top;
+          under = self.old.top ∷ self.old.under;
+        }) }
+    {
+        let mut trail = Vec::new(alloc);
+        let set = self.net.word(edge).meet(part);
+        replace(&mut self.net, &mut trail, edge, set)?;
+        let steps = rule(alloc, &mut self.net, &mut trail, &self.calculus, cut, all)?;
+        let Ok(()) = self.trails.push(trail) else {
+            return Err(Memory);
+        };
+        Ok(steps)
     }
 
     /// Pops the top.

@@ -112,6 +112,22 @@ fn is_small(tree: &Tree) -> bool
     tree.nodes.len() <= u32::MAX as usize && tree.nodes.iter().all(|node| has_few_steps(node))
 }
 
+/// The network with these sets.
+fn net_of(
+    rt: &impl Abort,
+    alloc: Global,
+    c: &Calculus,
+    words: &[u64],
+    nodes: u32,
+) -> Result<Net, Fail> {
+    let mut net = Net::new(alloc, nodes, c.full())?;
+    for edge in 0..net.edges() {
+        assert!(rt; edge < net.edges() && (edge as usize) < words.len());
+        net.set(edge, Rel::of(words[edge as usize]));
+    }
+    Ok(net)
+}
+
 /// What the check says of the tree, and how many splits it has.
 fn checked(
     rt: &impl Abort,
@@ -121,11 +137,7 @@ fn checked(
     rows: &[Row],
 ) -> Result<(Result<(), TreeFault>, u32), Fail> {
     let c = ramsey(alloc)?;
-    let mut net = Net::new(alloc, nodes, c.full())?;
-    for edge in 0..net.edges() {
-        assert!(rt; edge < net.edges() && (edge as usize) < words.len());
-        net.set(edge, Rel::of(words[edge as usize]));
-    }
+    let net = net_of(rt, alloc, &c, words, nodes)?;
     let tree = tree_of(alloc, rows)?;
     assert!(rt; is_network(&net, &c) && is_small(&tree));
     Ok((check(alloc, &net, &c, &tree), tree.splits()))
@@ -169,6 +181,20 @@ const SECOND: Row = (
     &[],
     Some(&[(2, 0, 5), (4, 0, 5), (4, 2, 5)]),
 );
+
+/// A leaf that holds what doesn't count.
+const HOLDING: Row = (Kind::Empty, (7, 3), &[9], &[5, 5], None);
+
+/// The second leaf, by more steps than it takes.
+const DETOUR: Row = (
+    Kind::Empty,
+    NONE,
+    &[],
+    &[],
+    Some(&[(2, 0, 4), (2, 0, 5), (4, 0, 5), (4, 2, 5), (0, 1, 2)]),
+);
+
+const STEPLESS: Row = (Kind::Empty, NONE, &[], &[], Some(&[]));
 
 #[test]
 fn tells_trees_that_refute_by_their_first_fault(rt: HostRuntime) -> Result<(), Fail> {
@@ -290,6 +316,37 @@ fn tells_trees_that_refute_by_their_first_fault(rt: HostRuntime) -> Result<(), F
 }
 
 #[test]
+fn odd_numbers_and_parts_are_told(rt: HostRuntime) -> Result<(), Fail> {
+    let table: [(&[Row], TreeFault); 5] = [
+        (
+            &[(Kind::Split, (0, 5), &[u64::MAX], &[1], None), EMPTY],
+            TreeFault::NotEmpty { node: 1 },
+        ),
+        (
+            &[(Kind::Split, (0, 5), &[A, B], &[1, 1], None), EMPTY, EMPTY],
+            TreeFault::BadTree { node: 0 },
+        ),
+        (
+            &[(Kind::Split, (0, 5), &[A, B], &[0, 2], None), EMPTY, EMPTY],
+            TreeFault::BadTree { node: 0 },
+        ),
+        (
+            &[(Kind::Split, (0, 5), &[A, B], &[1, 9], None), EMPTY, EMPTY],
+            TreeFault::BadTree { node: 0 },
+        ),
+        (
+            &[SPLIT, EMPTY, EMPTY, EMPTY],
+            TreeFault::BadTree { node: 3 },
+        ),
+    ];
+    for (rows, wanted) in table {
+        let (said, _splits) = checked(&rt, rt.alloc(), &SIX, 6, rows)?;
+        assert_eq!(rt; said, Err(wanted));
+    }
+    Ok(())
+}
+
+#[test]
 fn a_found_leaf_refutes_nothing(rt: HostRuntime) -> Result<(), Fail> {
     // the search in five nodes, where both colours are open everywhere, up to the pentagon
     let rows: [Row; 11] = [
@@ -325,6 +382,107 @@ fn an_empty_set_needs_no_split(rt: HostRuntime) -> Result<(), Fail> {
             assert_eq!(rt; said, wanted, "of {nodes} nodes");
             assert_eq!(rt; splits, 0);
         }
+    }
+    Ok(())
+}
+
+/// The traced tree of the tree, as far as the check of it says that it refutes too.
+fn traced(
+    rt: &impl Abort,
+    alloc: Global,
+    words: &[u64],
+    nodes: u32,
+    rows: &[Row],
+) -> Result<Result<Tree, TreeFault>, Fail> {
+    let c = ramsey(alloc)?;
+    let net = net_of(rt, alloc, &c, words, nodes)?;
+    let tree = tree_of(alloc, rows)?;
+    assert!(rt; is_network(&net, &c) && is_small(&tree));
+    let traced = trace(alloc, &net, &c, &tree);
+    if let Ok(traced) = &traced {
+        assert!(rt; is_small(traced));
+        assert_eq!(rt; check(alloc, &net, &c, traced), Ok(()));
+    }
+    Ok(traced)
+}
+
+fn has_steps(node: &Node, steps: &[(u32, u32, u32)]) -> bool {
+    match &node.steps {
+        Steps::Sweep => false,
+        Steps::List(list) => {
+            list.len() == steps.len()
+                && list
+                    .iter()
+                    .zip(steps.iter())
+                    .all(|(a, b)| (a.i, a.j, a.k) == *b)
+        }
+    }
+}
+
+fn is_row(node: &Node, row: &Row) -> bool {
+    let (kind, ends, parts, children, steps) = *row;
+    node.kind == kind
+        && (node.i, node.j) == ends
+        && node.parts.len() == parts.len()
+        && node
+            .parts
+            .iter()
+            .zip(parts.iter())
+            .all(|(a, b)| a.word() == *b)
+        && node.children.as_slice() == children
+        && has_steps(node, steps.unwrap_or(&[]))
+}
+
+/// Traces the tree, and compares its nodes.
+fn trace_to(
+    rt: &impl Abort,
+    alloc: Global,
+    words: &[u64],
+    nodes: u32,
+    rows: &[Row],
+    wanted: &[Row],
+) -> Result<(), Fail> {
+    let tree = traced(rt, alloc, words, nodes, rows)?
+        .ok()
+        .ok_or("refuted")?;
+    assert_eq!(rt; tree.nodes.len(), wanted.len());
+    for x in 0..wanted.len() {
+        assert!(rt;
+            x < tree.nodes.len() && is_row(&tree.nodes[x], &wanted[x]),
+            "node {x}"
+        );
+    }
+    Ok(())
+}
+
+#[test]
+fn lists_the_ruled_steps_of_each_node(rt: HostRuntime) -> Result<(), Fail> {
+    let wanted = [LISTED, FIRST, SECOND];
+    trace_to(&rt, rt.alloc(), &SIX, 6, &[SPLIT, EMPTY, EMPTY], &wanted)?;
+    trace_to(&rt, rt.alloc(), &SIX, 6, &wanted, &wanted)?;
+    trace_to(&rt, rt.alloc(), &SIX, 6, &[SPLIT, HOLDING, DETOUR], &wanted)
+}
+
+#[test]
+fn no_step_is_listed_where_a_set_is_empty(rt: HostRuntime) -> Result<(), Fail> {
+    trace_to(&rt, rt.alloc(), &[0], 2, &[EMPTY], &[STEPLESS])?;
+    trace_to(&rt, rt.alloc(), &[A, 0, B], 3, &[EMPTY], &[STEPLESS])
+}
+
+#[test]
+fn tells_the_fault_of_a_tree_that_it_can_not_trace(rt: HostRuntime) -> Result<(), Fail> {
+    let table: [(&[Row], TreeFault); 4] = [
+        (&[], TreeFault::BadTree { node: 0 }),
+        (&[EMPTY], TreeFault::NotEmpty { node: 0 }),
+        (&[SPLIT, EMPTY, OPEN], TreeFault::BadTree { node: 2 }),
+        (
+            &[(Kind::Split, (0, 5), &[A], &[1], None), EMPTY],
+            TreeFault::Uncovered { node: 0 },
+        ),
+    ];
+    for (rows, wanted) in table {
+        let said = traced(&rt, rt.alloc(), &SIX, 6, rows)?.err();
+        assert_eq!(rt; said, Some(wanted), "of {} nodes", rows.len());
     }
     Ok(())
 }

@@ -72,7 +72,7 @@ fn look(net: &Net, networks: &Networks, x: u32, node: &Node) -> Result<(), TreeF
 }
 
 /// Whether all children of the last node on the way were entered.
-fn is_finished(nodes: &[Node], way: &[Entered]) -> bool
+pub(crate) fn is_finished(nodes: &[Node], way: &[Entered]) -> bool
     requires { HasLast nodes.now (reverse way.now) }
     ensures next { result ≡ false → HasNext nodes.now (reverse way.now) }
     ensures finished { result ≡ true → IsFinished nodes.now (reverse way.now) }
