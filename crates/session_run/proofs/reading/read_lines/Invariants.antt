@@ -1,0 +1,9 @@
+use Rattle.std.proofs.Common.{◌-◌, length}
+use Rattle.session_run.specs.Readings.{IsRead}
+use Rattle.session_run.proofs.reading.read_lines.Given as goal
+
+abbrev pub invariant-loop-len : goal.invariant-loop-len
+invariant-loop-len l = IsRead l.bases l.nodes l.text l.reading
+
+abbrev pub decreases-loop-len : goal.decreases-loop-len
+decreases-loop-len l = length l.text - l.reading.from

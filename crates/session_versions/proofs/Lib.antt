@@ -1,0 +1,4 @@
+pub mod Closures
+pub mod Numbers
+pub mod Stores
+pub mod Proper

@@ -1,0 +1,5 @@
+pub mod HeldFacts
+pub mod Drafts
+pub mod Versions
+pub mod Stores
+pub mod Laws
