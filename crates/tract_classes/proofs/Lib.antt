@@ -1,6 +1,8 @@
 pub mod Ascending
 pub mod ClassRows
 pub mod FirstMembers
+pub mod GeneratedMeets
+pub mod TurnedSets
 pub mod ReadClasses
 pub mod LargestMembers
 pub mod Counts

@@ -2,6 +2,8 @@ pub mod Class
 pub mod Kept
 pub mod ClassFile
 pub mod ClassFault
+pub mod Generators
+pub mod Turned
 pub mod Parts
 pub mod BuiltIn
 pub mod Laws

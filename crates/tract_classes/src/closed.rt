@@ -1,20 +1,26 @@
 //! The tests of a class: that each base relation is a member by itself, and that the class is closed under converse,
 //! intersection and composition.
 //!
-//! Each test goes through the members in ascending order, and stops at the first that fails. For `n` members the last
-//! takes `n * n` compositions, a million for the greatest class, so they are best looked up.
+//! Each test goes through the members in ascending order, and stops at the first that fails. Those of two members first
+//! find out by fewer look-ups whether all pass, and look at each pair where they don't.
 ghost use Rattle.std.specs.Prelude.{◌≡◌, ℕ, ◌<◌, ◌≤◌, MatchResult, MatchOption, Contains};
 ghost use Rattle.calculus_table.specs.Calculus.{EachBase, IsFirstBase};
 ghost use Rattle.tract_classes.specs.Class.{EachMember, IsClosedClass, HasBase, HasConverse, AreSetsOf};
 ghost use Rattle.tract_classes.specs.ClassFault.{IsFirstMember, IsFaultOf};
 
 use crate::class::Class;
+use crate::compositions::first_missing_composition;
 use crate::fault::{COMPOSITION, CONVERSE, ClassFault, MEET};
-use crate::pairs::{first_without_composition, first_without_meet};
+use crate::meets::first_missing_meet;
 use calculus_table::{Compose, Rel};
+use std::alloc::Global;
 
 /// Whether the class has each base relation and is closed: the first fault, if it isn't.
-pub(crate) fn check_closed<C: Compose>(class: &Class, c: &C) -> Result<(), ClassFault>
+pub(crate) fn check_closed<C: Compose>(
+    alloc: Global,
+    class: &Class,
+    c: &C,
+) -> Result<(), ClassFault>
     requires { AreSetsOf (C.algebra c.now) class.now }
     ensures { MatchResult result
         (λ _. IsClosedClass (C.algebra c.now) class.now)
@@ -30,10 +36,10 @@ pub(crate) fn check_closed<C: Compose>(class: &Class, c: &C) -> Result<(), Class
             op: CONVERSE,
         });
     }
-    if let Some((a, b)) = first_without_meet(class) {
+    if let Some((a, b)) = first_missing_meet(alloc, class) {
         return Err(ClassFault::NotClosed { a, b, op: MEET });
     }
-    if let Some((a, b)) = first_without_composition(class, c) {
+    if let Some((a, b)) = first_missing_composition(class, c) {
         return Err(ClassFault::NotClosed {
             a,
             b,

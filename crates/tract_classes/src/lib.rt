@@ -15,9 +15,12 @@
 mod built_in;
 mod class;
 mod closed;
+mod compositions;
 mod fault;
+mod generators;
 mod laws;
 mod loading;
+mod meets;
 mod pairs;
 mod partition;
 mod rows;

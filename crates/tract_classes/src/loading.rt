@@ -2,7 +2,7 @@
 //!
 //! The lines are read in order, each once, and the first faulty one decides. The sets are kept in ascending order, so
 //! a set that occurs again is found by halves, and the number of members is known at each line. After the end line the
-//! class is tested, with compositions that are looked up: a class of 868 members has some 750,000 pairs.
+//! class is tested.
 ghost use Rattle.std.specs.Prelude.{◌≡◌, ℕ, ◌≤◌, length, IfOk, OnOk, IfErr, IfSome, Ok, Err};
 ghost use Rattle.qsr_lex.specs.declared.TheConstants.{MAX_TEXT};
 ghost use Rattle.calculus_table.specs.Rel.{IsWithin};
@@ -38,7 +38,7 @@ pub fn load(alloc: Global, bytes: &[u8], c: &Calculus) -> Result<Class, ClassFau
     let Ok(fast) = Fast::new(alloc, c) else {
         return Err(ClassFault::Memory);
     };
-    match check_closed(&class, &fast) {
+    match check_closed(alloc, &class, &fast) {
         Ok(()) => Ok(class),
         Err(fault) => Err(fault),
     }

@@ -9,7 +9,7 @@ use calculus_table::{Memory, Rel};
 use std::alloc::Global;
 
 /// The most base relations for whose sets there is a map. It has 8 KiB then.
-const MAX_MAPPED: u32 = 16;
+pub(crate) const MAX_MAPPED: u32 = 16;
 
 /// The row of a set.
 #[inline]

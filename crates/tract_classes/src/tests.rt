@@ -76,7 +76,7 @@ fn loaded(alloc: Global, text: &str, c: &Calculus) -> Result<u32, ClassFault> {
 fn class_files_are_read_or_refused(rt: HostRuntime) -> Result<(), Fail> {
     let c = point(rt.alloc())?;
     // text, the number of members or the fault
-    let rows: [(&str, Result<u32, ClassFault>); 14] = [
+    let rows: [(&str, Result<u32, ClassFault>); 15] = [
         // the sets without a gap
         (
             "( < )\n( = )\n( > )\n( < = )\n( = > )\n( < = > )\n.\n",
@@ -97,6 +97,7 @@ fn class_files_are_read_or_refused(rt: HostRuntime) -> Result<(), Fail> {
             Err(ClassFault::LacksBase { r: 2 }),
         ),
         ("( < = )\n.\n", Err(ClassFault::LacksBase { r: 0 })),
+        ("( < )\n.\n", Err(ClassFault::LacksBase { r: 1 })),
         // {<, =} has the converse {=, >}
         (
             "( < )\n( = )\n( > )\n( < = )\n.\n",
@@ -124,22 +125,63 @@ fn class_files_are_read_or_refused(rt: HostRuntime) -> Result<(), Fail> {
     Ok(())
 }
 
+/// The lines of the base relations of RCC-8.
+const REGIONS: &str = "( DC )\n( EC )\n( PO )\n( TPP )\n( NTPP )\n( TPPi )\n( NTPPi )\n( EQ )\n";
+
+/// The lines of the base relations of Allen's algebra.
+const INTERVALS: &str =
+    "( b )\n( m )\n( o )\n( fi )\n( di )\n( s )\n( eq )\n( si )\n( d )\n( f )\n( oi )\n( mi )\n( bi )\n";
+
 #[test]
-fn an_intersection_comes_before_a_composition(rt: HostRuntime) -> Result<(), Fail> {
-    let c = rcc8(rt.alloc())?;
-    let bases = "( DC )\n( EC )\n( PO )\n( TPP )\n( NTPP )\n( TPPi )\n( NTPPi )\n( EQ )\n";
-    let mut text = String::from_str(rt.alloc(), bases)?;
-    text.push_str("( DC EC PO )\n( EC PO EQ )\n.\n")?;
-    let fault = ClassFault::NotClosed {
-        a: 0b111,
-        b: 0b1000_0110,
-        op: MEET,
-    };
-    assert_eq!(rt; loaded(rt.alloc(), &text, &c), Err(fault));
-    assert_eq!(rt;
-        loaded(rt.alloc(), "( DC )\n.\n", &c),
-        Err(ClassFault::LacksBase { r: 1 })
-    );
+fn the_first_pair_that_leaves_the_class_is_named(rt: HostRuntime) -> Result<(), Fail> {
+    let regions = rcc8(rt.alloc())?;
+    let intervals = allen(rt.alloc())?;
+    // calculus, its base relations, more sets, the first two members whose intersection or composition is none
+    let rows: [(&Calculus, &str, &str, u64, u64, u32); 4] = [
+        // compositions aren't looked at where an intersection is none
+        (
+            &regions,
+            REGIONS,
+            "( DC EC PO )\n( EC PO EQ )\n",
+            0b111,
+            0b1000_0110,
+            MEET,
+        ),
+        // the second is the intersection of the two after it
+        (
+            &regions,
+            REGIONS,
+            "( DC EC PO )\n( EC PO EQ )\n( EC PO TPP EQ )\n( EC PO TPPi EQ )\n",
+            0b111,
+            0b1000_0110,
+            MEET,
+        ),
+        // DC;DC is the full set, DC;EC is DC EC PO TPP NTPP, and EC;DC tells of it
+        (
+            &regions,
+            REGIONS,
+            "( DC EC PO TPP NTPP TPPi NTPPi EQ )\n",
+            0b1,
+            0b10,
+            COMPOSITION,
+        ),
+        // b;r is b for each r from b to si, and b;d is b m o s d
+        (
+            &intervals,
+            INTERVALS,
+            "( b m o fi di s eq si d f oi mi bi )\n",
+            0b1,
+            0b1_0000_0000,
+            COMPOSITION,
+        ),
+    ];
+    for (c, bases, sets, a, b, op) in rows {
+        let mut text = String::from_str(rt.alloc(), bases)?;
+        text.push_str(sets)?;
+        text.push_str(".\n")?;
+        let fault = ClassFault::NotClosed { a, b, op };
+        assert_eq!(rt; loaded(rt.alloc(), &text, c), Err(fault), "{sets}");
+    }
     Ok(())
 }
 
