@@ -16,3 +16,5 @@ pub mod Asides
 pub mod BlockSkips
 pub mod Apartness
 pub mod PatternTexts
+pub mod OneMatrix
+pub mod PatternLaws

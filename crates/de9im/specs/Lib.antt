@@ -4,3 +4,4 @@ pub mod Cuts
 pub mod Matrices
 pub mod Entries
 pub mod Patterns
+pub mod Laws

@@ -6,6 +6,7 @@
 #![tactic(auto)]
 
 mod cuts;
+mod laws;
 mod matrices;
 mod patterns;
 mod relations;
@@ -13,6 +14,7 @@ mod scans;
 #[cfg(test)]
 mod tests;
 
+pub use laws::{laws_of_patterns, rings_have_one_matrix};
 pub use matrices::{Dim, Matrix};
 pub use patterns::{BadPattern, Named, Pattern, Want, matches, predicate};
 pub use relations::matrix;

@@ -6,3 +6,5 @@ pub mod Drawings
 pub mod OneAnswer
 pub mod Meetings
 pub mod SomeAnswer
+pub mod OneFacts
+pub mod OneDemo

@@ -24,7 +24,9 @@ mod tests;
 
 pub use demo::demo_net;
 pub use fault::{FactFault, GeoFault};
-pub use laws::{matrix_has_one_relation, polygon_file_has_one_answer};
+pub use laws::{
+    laws_of_demo_nets, laws_of_polygon_facts, matrix_has_one_relation, polygon_file_has_one_answer,
+};
 pub use polygon::Polygon;
 pub use reading::read_polygons;
 pub use relating::rcc8;
