@@ -8,3 +8,4 @@ pub mod ReadAgain
 pub mod ReadForms
 pub mod OneLine
 pub mod WrittenFiles
+pub mod Answered

@@ -1,5 +1,5 @@
 -- What holds of certificate files.
-use Rattle.std.specs.Prelude.{◌≡◌, ◌≢◌, ℕ, ◌==◌, ◌++◌, Bool, true, not, List, codes}
+use Rattle.std.specs.Prelude.{◌≡◌, ◌≢◌, ◌⊎◌, ℕ, ◌==◌, ◌++◌, Bool, true, not, List, codes}
 use Rattle.std.specs.List.{list_all}
 use Rattle.cert_file.specs.Certificate.{Certificate}
 use Rattle.cert_file.specs.Files.{IsFileOf, IsFaultOf}
@@ -50,3 +50,23 @@ FileHasOneFault = (bytes : List ℕ) (fault other : CertFault) → fault ≢ Mem
 -- and a file of a certificate has none
 abbrev pub FileHasNoFault : Type 0
 FileHasNoFault = (bytes : List ℕ) (c : Certificate) (fault : CertFault) → fault ≢ Memory → IsFileOf bytes c → ¬ IsFaultOf bytes fault
+
+-- the fault says something of the bytes: it isn't out of memory
+abbrev pub IsOfBytes : CertFault → Type 0
+IsOfBytes Memory = ⊥
+IsOfBytes fault = Unit {0}
+
+-- bytes are a file of a certificate
+pub record IsCertificate (bytes : List ℕ) : Type 0 where
+  pub certificate : Certificate
+  pub file : IsFileOf bytes certificate
+
+-- bytes have a fault
+pub record HasFault (bytes : List ℕ) : Type 0 where
+  pub fault : CertFault
+  pub of_bytes : IsOfBytes fault
+  pub is : IsFaultOf bytes fault
+
+-- bytes are a file or have a fault
+abbrev pub FileHasAnswer : Type 0
+FileHasAnswer = (bytes : List ℕ) → IsCertificate bytes ⊎ HasFault bytes

@@ -5,3 +5,4 @@ pub mod WholeFiles
 pub mod PrintedLines
 pub mod ReadAgain
 pub mod Answered
+pub mod DistinctNames

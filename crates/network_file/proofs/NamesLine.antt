@@ -51,7 +51,7 @@ or_r : (a b : Bool) → b ≡ true → a || b ≡ true
 or_r true b p = refl
 or_r false b p = p
 
-twice-at : (names : List (List ℕ)) (j k : ℕ) → j < k → k < length names → slice_get names j ≡ slice_get names k → has_twice names ≡ true
+pub twice-at : (names : List (List ℕ)) (j k : ℕ) → j < k → k < length names → slice_get names j ≡ slice_get names k → has_twice names ≡ true
 twice-at [] j k o b h = absurd (omega arith)
 twice-at (x ∷ xs) j zero o b h = absurd (omega arith)
 twice-at (x ∷ xs) zero (suc k) o b h = or_l (is_some (place_of x xs)) (has_twice xs) (place_of-some xs x k (sym h))

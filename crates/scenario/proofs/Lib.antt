@@ -1,4 +1,4 @@
 mod Rows
 mod LookUps
-mod Faults
-mod FirstFaults
+pub mod Faults
+pub mod FirstFaults

@@ -5,10 +5,14 @@ use Rattle.cert_file.proofs.OneLine.{HasNoLineEnd-compact_text}
 use Rattle.cert_file.proofs.PlainCertificates.{IsPlain-certificate}
 use Rattle.cert_file.proofs.WrittenFiles.{IsFileOf-certificate_text}
 use Rattle.cert_file.proofs.ReadForms.{IsWritable-read}
+use Rattle.cert_file.proofs.Answered.{file-answered}
 use Rattle.cert_file.proofs.laws.laws_of_certificates.Goals as goal
 
 pub returns-clause-written_is_read : goal.returns-clause-written_is_read
 returns-clause-written_is_read _ = IsFileOf-certificate_text
+
+pub returns-clause-file_has_answer : goal.returns-clause-file_has_answer
+returns-clause-file_has_answer _ = file-answered
 
 pub returns-clause-read_is_writable : goal.returns-clause-read_is_writable
 returns-clause-read_is_writable _ = λ bytes c file. IsWritable-read file.value c file.is_made
