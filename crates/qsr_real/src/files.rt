@@ -39,13 +39,17 @@ impl<R: Files> Source for FileShelf<'_, R> {
 
     ghost faults = { λ s. s.faults };
 
-    /// Reads the open file. While none is open there is no byte.
+    /// Reads the open file, and closes it at its end: where standard input was closed when the program began, the file
+    /// has its descriptor. While none is open there is no byte.
     fn read(&mut self, buf: &mut [u8]) -> Result<usize, Failed> {
         let Some(file) = &mut self.opened else {
             return Ok(0);
         };
         match file.read(buf) {
             Ok(n) => {
+                if n == 0 {
+                    self.opened = None;
+                }
                 self.given = self.given.saturating_add(n as u64);
                 Ok(n)
             }

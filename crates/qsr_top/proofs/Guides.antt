@@ -1,140 +1,100 @@
 -- The calculus and the class that words name, as they are read one after the other.
-use Rattle.std.proofs.Common.{◌≡◌, ℕ, ◌≤◌, Bool, true, false, ◌||◌, cond, List, [], ◌∷◌, ◌++◌, Option, None, Some, Result, Ok, Err, option_map, inl, inr, refl, subst, arith}
-use Rattle.std.specs.Prelude.{◌⊎◌, ⊤, IfSome, MatchOption, codes, is_some}
+use Rattle.std.proofs.Common.{◌≡◌, ℕ, Bool, true, false, ◌||◌, cond, List, [], ◌∷◌, ◌++◌, Option, None, Some, Result, Ok, Err, option_map, inl, refl, subst}
+use Rattle.std.specs.Prelude.{MatchOption, codes, is_some}
 use Rattle.std.specs.Str.{bytes_eq}
-use Rattle.std.proofs.lemmas.Bool.{false≢true}
-use Rattle.std.proofs.lemmas.List.Elements.{All-head}
 use Rattle.calculus_table.specs.Calculus.{NamedAlgebra, IsCalculus}
 use Rattle.calculus_builtin.specs.Rcc8.{rcc8_calculus}
-use Rattle.calculus_builtin.specs.Allen.{allen_calculus}
-use Rattle.calculus_builtin.specs.Point.{point_calculus}
 use Rattle.tract_classes.specs.BuiltIn.{h8, c8, q8, singles}
-use Rattle.qsr_outside.specs.Counts.{RoseAbove}
-use Rattle.qsr_outside.specs.Documents.{Documents, HasDocument}
+use Rattle.qsr_outside.specs.Documents.{Documents}
 use Rattle.qsr_words.specs.Asked.{class_fits, is_rcc8_class}
-use Rattle.qsr_top.specs.Stops.{Cause, HasCause}
+use Rattle.qsr_top.specs.Stops.{Cause}
 use Rattle.qsr_top.specs.Parts.{Then}
-use Rattle.qsr_top.specs.Inputs.{DocumentOf, TableOf, CalculusOf, builtin_of, ClassFileOf, ClassOf, builtin_class, CanGuide, CalculusAndClass}
-use Rattle.qsr_top.specs.Told.{told_where, named_by_calculus, named_by_class, AreThere}
+use Rattle.qsr_top.specs.Inputs.{DocumentOf, TableOf, CalculusOf, builtin_of, ClassFileOf, ClassOf, builtin_class, CanGuide, Guided, IsGuided, CalculusAndClass}
+use Rattle.qsr_top.specs.Told.{named_by_calculus, named_by_class}
+use Rattle.qsr_top.specs.Answers.{OfNamed, Fetches}
 use Rattle.qsr_top.specs.declared.stops.Stop.{Stop}
 use Rattle.qsr_top.specs.declared.stops.Stop.TheVariants as stop
-use Rattle.qsr_top.proofs.Naming.{told_first, told_second}
+use Rattle.qsr_top.proofs.Fetching.{fetches_then, fetches_stopped, fetches_made, fetches_caused, fetches_nothing, fetches_memory}
+use Rattle.qsr_top.proofs.OnRcc8.{is_rcc8}
 use Rattle.qsr_top.proofs.InputsThere.{IsGuideFor, h8_guides, c8_guides, q8_guides, none_guides, fits_rcc8}
 
--- ---- told facts
+-- ---- one that is built in, and one of a document
 
-pub IfSome-weaker : {X : Type 0} (o : Option X) (P Q : X → Type 0) → ((x : X) → P x → Q x) → IfSome o P → IfSome o Q
-IfSome-weaker None P Q f h = tt
-IfSome-weaker (Some x) P Q f h = f x h
+module _ {F : Type 0} (documents : F → Option Documents) (faults given absent : F → ℕ) (word : List ℕ) (old new : F) where
+  abbrev FetchesFrom : {A : Type 0} → List (List ℕ) → (Documents → Result A Cause → Type 0) → F → F → Result A Stop → Type 0
+  FetchesFrom names Part from to result = Fetches documents faults given absent names Part from to result
 
-IfSome-two : {X : Type 0} (o : Option X) (P Q R : X → Type 0) → ((x : X) → P x → Q x → R x) → IfSome o P → IfSome o Q → IfSome o R
-IfSome-two None P Q R f h k = tt
-IfSome-two (Some x) P Q R f h k = f x h k
+  built_in : (c : NamedAlgebra) (o : Option NamedAlgebra) → Some c ≡ o →
+      FetchesFrom (cond (is_some o) [] (word ∷ [])) (λ d r. MatchOption o (Then (DocumentOf d word) TableOf r) (λ k. r ≡ Ok k)) old old (Ok c)
+  built_in c None e = absurd cc
+  built_in c (Some k) e = fetches_nothing documents faults given absent (λ d r. r ≡ Ok k) old c (λ d. cc)
 
-pub HasCause-weaker : {A B : Type 0} (P : Result A Cause → Type 0) (Q : Result B Cause → Type 0) (s : Stop) → ((c : Cause) → P (Err c) → Q (Err c)) →
-    HasCause P s → HasCause Q s
-HasCause-weaker P Q (stop.Refused number place) f h = f _ h
-HasCause-weaker P Q stop.TooLong f h = f _ h
-HasCause-weaker P Q stop.ReadFault f h = tt
-HasCause-weaker P Q stop.Memory f h = tt
+  pub builtin_fetched : (c : NamedAlgebra) → Some c ≡ builtin_of word → FetchesFrom (named_by_calculus word) (λ d. CalculusOf d word) old old (Ok c)
+  builtin_fetched c e = built_in c (builtin_of word) e
 
--- a part that gave a value didn't fail
-pub not_failed : {A : Type 0} (v : A) (P : Type 0) → (Ok v ≡ Err stop.ReadFault) ⊎ P → P
-not_failed v P h = elim h [ inl e ↦ absurd cc | inr same ↦ same ]
+  of_document : (o : Option NamedAlgebra) (r : Result NamedAlgebra Stop) → None ≡ o → FetchesFrom (word ∷ []) (λ d. Then (DocumentOf d word) TableOf) old new r →
+      FetchesFrom (cond (is_some o) [] (word ∷ [])) (λ d x. MatchOption o (Then (DocumentOf d word) TableOf x) (λ k. x ≡ Ok k)) old new r
+  of_document None r e h = h
+  of_document (Some k) r e h = absurd cc
 
--- what two reads gave
-pub given_in_two : (old mid new n : ℕ) → old ≤ mid → RoseAbove mid new n → RoseAbove old new n
-given_in_two old mid new n grew rose = grind (arith, grew, rose)
+  pub table_fetched : (r : Result NamedAlgebra Stop) → None ≡ builtin_of word → FetchesFrom (word ∷ []) (λ d. Then (DocumentOf d word) TableOf) old new r →
+      FetchesFrom (named_by_calculus word) (λ d. CalculusOf d word) old new r
+  table_fetched r e h = of_document (builtin_of word) r e h
 
--- ---- where nothing is built in under a word, it names a document
+  pub calculus_memory : FetchesFrom (named_by_calculus word) (λ d. CalculusOf d word) old old (Err stop.Memory)
+  calculus_memory = fetches_memory documents faults given absent (λ d. CalculusOf d word) old (named_by_calculus word)
 
-pub there_of_none : {X : Type 0} (o : Option X) (word : List ℕ) (told : Option Documents) → None ≡ o →
-    AreThere (cond (is_some o) [] (word ∷ [])) told → HasDocument told word (λ _. ⊤)
-there_of_none None word told e h = All-head (λ name. HasDocument told name (λ _. ⊤)) word [] h
-there_of_none (Some x) word told e h = absurd cc
+  module _ (c : NamedAlgebra) where
+    class_built_in : (k : List ℕ) (o : Option (ℕ → List ℕ)) → Some k ≡ option_map (λ f. f c.algebra.size) o →
+        FetchesFrom (cond (is_some o) [] (word ∷ [])) (λ d r. MatchOption o (Then (DocumentOf d word) (ClassFileOf c) r) (λ f. r ≡ Ok (f c.algebra.size))) old old (Ok k)
+    class_built_in k None e = absurd cc
+    class_built_in k (Some f) e = fetches_nothing documents faults given absent (λ d r. r ≡ Ok (f c.algebra.size)) old k (λ d. cc)
 
-mapped_none : {X Y : Type 0} (f : X → Y) (o : Option X) → None ≡ option_map f o → None ≡ o
-mapped_none f None e = refl
-mapped_none f (Some x) e = absurd cc
+    pub builtin_class_fetched : (k : List ℕ) → Some k ≡ option_map (λ f. f c.algebra.size) (builtin_class word) → FetchesFrom (named_by_class word) (λ d. ClassOf d word c) old old (Ok k)
+    builtin_class_fetched k e = class_built_in k (builtin_class word) e
 
-pub there_of_class : (size : ℕ) (word : List ℕ) (told : Option Documents) → None ≡ option_map (λ f. f size) (builtin_class word) →
-    AreThere (named_by_class word) told → HasDocument told word (λ _. ⊤)
-there_of_class size word told e h = there_of_none (builtin_class word) word told (mapped_none (λ f. f size) (builtin_class word) e) h
+    class_of_document : (o : Option (ℕ → List ℕ)) (r : Result (List ℕ) Stop) → None ≡ option_map (λ f. f c.algebra.size) o →
+        FetchesFrom (word ∷ []) (λ d. Then (DocumentOf d word) (ClassFileOf c)) old new r →
+        FetchesFrom (cond (is_some o) [] (word ∷ [])) (λ d x. MatchOption o (Then (DocumentOf d word) (ClassFileOf c) x) (λ f. x ≡ Ok (f c.algebra.size))) old new r
+    class_of_document None r e h = h
+    class_of_document (Some f) r e h = absurd cc
 
--- ---- what is built in is the same whatever the documents are
+    pub class_file_fetched : (r : Result (List ℕ) Stop) → None ≡ option_map (λ f. f c.algebra.size) (builtin_class word) →
+        FetchesFrom (word ∷ []) (λ d. Then (DocumentOf d word) (ClassFileOf c)) old new r → FetchesFrom (named_by_class word) (λ d. ClassOf d word c) old new r
+    class_file_fetched r e h = class_of_document (builtin_class word) r e h
 
-module _ (d e : Documents) (word : List ℕ) where
-  any_calculus : (o : Option NamedAlgebra) (r : Result NamedAlgebra Cause) → cond (is_some o) [] (word ∷ []) ≡ [] →
-      MatchOption o (Then (DocumentOf d word) TableOf r) (λ c. r ≡ Ok c) → MatchOption o (Then (DocumentOf e word) TableOf r) (λ c. r ≡ Ok c)
-  any_calculus None r none h = absurd cc
-  any_calculus (Some c) r none h = h
-
-  CalculusOf-any : (r : Result NamedAlgebra Cause) → named_by_calculus word ≡ [] → CalculusOf d word r → CalculusOf e word r
-  CalculusOf-any r none h = any_calculus (builtin_of word) r none h
-
-  any_class : (c : NamedAlgebra) (o : Option (ℕ → List ℕ)) (r : Result (List ℕ) Cause) → cond (is_some o) [] (word ∷ []) ≡ [] →
-      MatchOption o (Then (DocumentOf d word) (ClassFileOf c) r) (λ k. r ≡ Ok (k c.algebra.size)) →
-      MatchOption o (Then (DocumentOf e word) (ClassFileOf c) r) (λ k. r ≡ Ok (k c.algebra.size))
-  any_class c None r none h = absurd cc
-  any_class c (Some k) r none h = h
-
-  ClassOf-any : (c : NamedAlgebra) (r : Result (List ℕ) Cause) → named_by_class word ≡ [] → ClassOf d word c r → ClassOf e word c r
-  ClassOf-any c r none h = any_class c (builtin_class word) r none h
+    pub class_memory : FetchesFrom (named_by_class word) (λ d. ClassOf d word c) old old (Err stop.Memory)
+    class_memory = fetches_memory documents faults given absent (λ d. ClassOf d word c) old (named_by_class word)
 
 -- ---- the calculus and then the class
 
-module _ (word class : List ℕ) (told : Option Documents) where
-  abbrev Told : (Documents → Type 0) → Type 0
-  Told = IfSome (told_where (named_by_calculus word ++ named_by_class class) told)
+module _ {F : Type 0} (documents : F → Option Documents) (faults given absent : F → ℕ) (word class : List ℕ) where
+  abbrev GuidedFrom : F → F → Result Guided Stop → Type 0
+  GuidedFrom from to r = Fetches documents faults given absent (named_by_calculus word ++ named_by_class class) (λ d. CalculusAndClass d word class) from to r
 
-  calculus_told : (c : NamedAlgebra) → IfSome (told_where (named_by_calculus word) told) (λ d. CalculusOf d word (Ok c)) → Told (λ d. CalculusOf d word (Ok c))
-  calculus_told c h = told_first (named_by_calculus word) (named_by_class class) told (λ d. CalculusOf d word (Ok c)) (λ none d e k. CalculusOf-any d e word (Ok c) none k) h
+  pub calculus_stops : (old new : F) (s : Stop) → Fetches documents faults given absent (named_by_calculus word) (λ d. CalculusOf d word) old new (Err s) → GuidedFrom old new (Err s)
+  calculus_stops old new s h =
+      fetches_stopped documents faults given absent (named_by_calculus word) (named_by_class class) (λ d. CalculusOf d word) (λ c d. Then (ClassOf d class c) (IsGuided c)) old new s h
 
-  pub guided_told : (c : NamedAlgebra) (k : List ℕ) → IfSome (told_where (named_by_calculus word) told) (λ d. CalculusOf d word (Ok c)) →
-      IfSome (told_where (named_by_class class) told) (λ d. ClassOf d class c (Ok k)) →
-      IfSome (told_where (named_by_calculus word ++ named_by_class class) told) (λ d. CalculusAndClass d word class (Ok (record { calculus = c; class = k })))
-  guided_told c k h i =
-      let second = told_second (named_by_calculus word) (named_by_class class) told (λ d. ClassOf d class c (Ok k)) (λ none d e p. ClassOf-any d e class c (Ok k) none p) i in
-      IfSome-two (told_where (named_by_calculus word ++ named_by_class class) told) (λ d. CalculusOf d word (Ok c)) (λ d. ClassOf d class c (Ok k))
-      (λ d. CalculusAndClass d word class (Ok (record { calculus = c; class = k })))
-      (λ d p q. record { value = c; first = p; second = record { value = k; first = q; second = refl } }) (calculus_told c h) second
+  module _ (old mid new : F) (c : NamedAlgebra) (h : Fetches documents faults given absent (named_by_calculus word) (λ d. CalculusOf d word) old mid (Ok c)) where
+    pub class_stops : (s : Stop) → Fetches documents faults given absent (named_by_class class) (λ d. ClassOf d class c) mid new (Err s) → GuidedFrom old new (Err s)
+    class_stops s k =
+        fetches_then documents faults given absent (named_by_calculus word) (named_by_class class) (λ d. CalculusOf d word) (λ x d. Then (ClassOf d class x) (IsGuided x)) old mid new c h (Err s)
+        (fetches_caused documents faults given absent (named_by_class class) (λ d. ClassOf d class c) (λ d. Then (ClassOf d class c) (IsGuided c)) mid new s (λ d x p. inl p) k)
 
-  pub calculus_stops : (s : Stop) → IfSome (told_where (named_by_calculus word) told) (λ d. HasCause (CalculusOf d word) s) →
-      IfSome (told_where (named_by_calculus word ++ named_by_class class) told) (λ d. HasCause (CalculusAndClass d word class) s)
-  calculus_stops s h =
-      let more = told_first (named_by_calculus word) (named_by_class class) told (λ d. HasCause (CalculusOf d word) s)
-      (λ none d e k. HasCause-weaker (CalculusOf d word) (CalculusOf e word) s (λ c p. CalculusOf-any d e word (Err c) none p) k) h in
-      IfSome-weaker (told_where (named_by_calculus word ++ named_by_class class) told) (λ d. HasCause (CalculusOf d word) s) (λ d. HasCause (CalculusAndClass d word class) s)
-      (λ d k. HasCause-weaker (CalculusOf d word) (CalculusAndClass d word class) s (λ c p. inl p) k) more
-
-  pub class_stops : (c : NamedAlgebra) (s : Stop) → IfSome (told_where (named_by_calculus word) told) (λ d. CalculusOf d word (Ok c)) →
-      IfSome (told_where (named_by_class class) told) (λ d. HasCause (ClassOf d class c) s) →
-      IfSome (told_where (named_by_calculus word ++ named_by_class class) told) (λ d. HasCause (CalculusAndClass d word class) s)
-  class_stops c s h i =
-      let second = told_second (named_by_calculus word) (named_by_class class) told (λ d. HasCause (ClassOf d class c) s)
-      (λ none d e k. HasCause-weaker (ClassOf d class c) (ClassOf e class c) s (λ x p. ClassOf-any d e class c (Err x) none p) k) i in
-      IfSome-two (told_where (named_by_calculus word ++ named_by_class class) told) (λ d. CalculusOf d word (Ok c)) (λ d. HasCause (ClassOf d class c) s)
-      (λ d. HasCause (CalculusAndClass d word class) s) (λ d p q. HasCause-weaker (ClassOf d class c) (CalculusAndClass d word class) s
-      (λ x k. inr (record { value = c; first = p; second = inl k })) q) (calculus_told c h) second
+    pub guided_fetched : (k : List ℕ) → Fetches documents faults given absent (named_by_class class) (λ d. ClassOf d class c) mid new (Ok k) →
+        GuidedFrom old new (Ok (record { calculus = c; class = k }))
+    guided_fetched k i =
+        fetches_then documents faults given absent (named_by_calculus word) (named_by_class class) (λ d. CalculusOf d word) (λ x d. Then (ClassOf d class x) (IsGuided x)) old mid new c h (Ok (record { calculus = c; class = k }))
+        (fetches_made documents faults given absent (named_by_class class) (λ d. ClassOf d class c) (λ d. Then (ClassOf d class c) (IsGuided c)) mid new k (record { calculus = c; class = k })
+        (λ d p. record { value = k; first = p; second = refl }) i)
 
 -- ---- which calculus it is, and that its class guides
 
-module _ (word : List ℕ) (told : Option Documents) (c : NamedAlgebra) where
-  abbrev chosen : (a b d : Bool) → Option NamedAlgebra
-  chosen a b d = cond a (Some rcc8_calculus) (cond b (Some allen_calculus) (cond d (Some point_calculus) None))
-
-  is_chosen : (r : Result NamedAlgebra Cause) (a b d : Bool) → r ≡ Ok c → IfSome (told_where (cond (is_some (chosen a b d)) [] (word ∷ [])) told)
-      (λ x. MatchOption (chosen a b d) (Then (DocumentOf x word) TableOf r) (λ k. r ≡ Ok k)) → a ≡ true → c ≡ rcc8_calculus
-  is_chosen r true b d is h e = cc
-  is_chosen r false b d is h e = absurd (false≢true e)
-
-  is_rcc8 : IfSome (told_where (named_by_calculus word) told) (λ d. CalculusOf d word (Ok c)) → bytes_eq word (codes "rcc8") ≡ true → c ≡ rcc8_calculus
-  is_rcc8 h e = is_chosen (Ok c) (bytes_eq word (codes "rcc8")) (bytes_eq word (codes "allen")) (bytes_eq word (codes "point")) refl h e
-
-  -- a class of RCC-8 is asked for over RCC-8 alone
-  pub fitting_rcc8 : (class : List ℕ) → class_fits word class ≡ true → IfSome (told_where (named_by_calculus word) told) (λ d. CalculusOf d word (Ok c)) →
-      is_rcc8_class class ≡ true → c ≡ rcc8_calculus
-  fitting_rcc8 class fits h e = is_rcc8 h (fits_rcc8 (bytes_eq word (codes "rcc8")) (is_rcc8_class class) fits e)
+-- a class of RCC-8 is asked for over RCC-8 alone
+pub fitting_rcc8 : (word : List ℕ) (told : Option Documents) (c : NamedAlgebra) (class : List ℕ) → class_fits word class ≡ true →
+    OfNamed (named_by_calculus word) told (λ d. CalculusOf d word (Ok c)) → is_rcc8_class class ≡ true → c ≡ rcc8_calculus
+fitting_rcc8 word told c class fits h e = is_rcc8 word told c h (fits_rcc8 (bytes_eq word (codes "rcc8")) (is_rcc8_class class) fits e)
 
 module _ (c : NamedAlgebra) (lawful : IsCalculus c.algebra) where
   abbrev class_chosen : (a b d e : Bool) → Option (ℕ → List ℕ)
@@ -152,28 +112,3 @@ module _ (c : NamedAlgebra) (lawful : IsCalculus c.algebra) where
       CanGuide (record { calculus = c; class = k })
   builtin_guides word k fits is =
       guides_chosen (bytes_eq word (codes "h8")) (bytes_eq word (codes "c8")) (bytes_eq word (codes "q8")) (bytes_eq word (codes "none")) k fits is
-
--- ---- a class that is built in, and one that isn't
-
-module _ (word : List ℕ) (told : Option Documents) (c : NamedAlgebra) where
-  builtin_value : (r : Result (List ℕ) Cause) (o : Option (ℕ → List ℕ)) (k : List ℕ) → r ≡ Ok k → Some k ≡ option_map (λ f. f c.algebra.size) o →
-      IfSome (told_where (cond (is_some o) [] (word ∷ [])) told)
-      (λ d. MatchOption o (Then (DocumentOf d word) (ClassFileOf c) r) (λ f. r ≡ Ok (f c.algebra.size)))
-  builtin_value r None k e is = absurd cc
-  builtin_value r (Some f) k e is = cc
-
-  pub builtin_class_told : (k : List ℕ) → Some k ≡ option_map (λ f. f c.algebra.size) (builtin_class word) →
-      IfSome (told_where (named_by_class word) told) (λ d. ClassOf d word c (Ok k))
-  builtin_class_told k is = builtin_value (Ok k) (builtin_class word) k refl is
-
-  file_fact : (o : Option (ℕ → List ℕ)) (F : (Result (List ℕ) Cause → Type 0) → Type 0) → None ≡ option_map (λ f. f c.algebra.size) o →
-      IfSome told (λ d. F (Then (DocumentOf d word) (ClassFileOf c))) →
-      IfSome (told_where (cond (is_some o) [] (word ∷ [])) told)
-      (λ d. F (λ r. MatchOption o (Then (DocumentOf d word) (ClassFileOf c) r) (λ f. r ≡ Ok (f c.algebra.size))))
-  file_fact None F is h = h
-  file_fact (Some f) F is h = absurd cc
-
-  -- where no class is built in under the word, a fact of the class file of this name is one of the word's class
-  pub file_class_told : (F : (Result (List ℕ) Cause → Type 0) → Type 0) → None ≡ option_map (λ f. f c.algebra.size) (builtin_class word) →
-      IfSome told (λ d. F (Then (DocumentOf d word) (ClassFileOf c))) → IfSome (told_where (named_by_class word) told) (λ d. F (ClassOf d word c))
-  file_class_told F is h = file_fact (builtin_class word) F is h

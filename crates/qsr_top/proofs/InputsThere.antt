@@ -1,10 +1,10 @@
--- Each input has a value or a cause, where the document that is named is there.
-use Rattle.std.proofs.Common.{◌≡◌, ◌≢◌, ℕ, Bool, true, false, not, ◌||◌, cond, List, [], ◌∷◌, ◌++◌, length, Option, None, Some, Result, Ok, Err, inl, inr, refl, subst, sym}
+-- Each input has a value or a cause, where the documents that are named are there, and no polygons are asked for.
+use Rattle.std.proofs.Common.{◌≡◌, ◌≢◌, ℕ, Bool, true, false, not, ◌||◌, cond, List, [], ◌∷◌, ◌++◌, length, Option, None, Some, Result, Ok, Err, inl, inr, refl, subst, sym, arith}
 use Rattle.std.specs.Prelude.{⊤, All, IsSomeAnd, MatchOption, codes, is_some}
 use Rattle.std.specs.Str.{bytes_eq}
 use Rattle.std.proofs.lemmas.Bool.{cases_lt, false≢true}
 use Rattle.std.proofs.lemmas.List.Elements.{All-head}
-use Rattle.calculus_table.specs.Calculus.{NamedAlgebra, IsCalculus, IsNamedCalculus, EachBase}
+use Rattle.calculus_table.specs.Calculus.{NamedAlgebra, IsCalculus, IsNamedCalculus, EachBase, AreDistinct}
 use Rattle.calculus_table.specs.declared.calculus.TableFault.TheVariants as table
 use Rattle.calculus_builtin.specs.Rcc8.{rcc8_calculus}
 use Rattle.calculus_builtin.specs.Allen.{allen_calculus}
@@ -30,15 +30,24 @@ use Rattle.network_file.specs.Laws as file_laws
 use Rattle.network_file.specs.declared.fault.FileFault.{FileFault}
 use Rattle.network_file.specs.declared.fault.FileFault.TheVariants as file
 use Rattle.network_file.proofs.Answered.{file-answered}
+use Rattle.network_file.proofs.DistinctNames.{file-names_distinct}
+use Rattle.cert_file.specs.Certificate.{Certificate}
+use Rattle.cert_file.specs.Laws as cert_laws
+use Rattle.cert_file.specs.Written.{IsScenarioFor}
+use Rattle.cert_file.specs.declared.fault.CertFault.{CertFault}
+use Rattle.cert_file.specs.declared.fault.CertFault.TheVariants as cert
+use Rattle.cert_file.proofs.Answered as cert_answers
+use Rattle.cert_file.proofs.ReadForms.{IsWritable-read}
+use Rattle.geo_facts.specs.PolygonFile.{NamedRing}
+use Rattle.geo_facts.proofs.OneFacts.{AreFactsOf-none}
 use Rattle.qsr_lex.specs.declared.TheConstants.{MAX_TEXT}
 use Rattle.qsr_outside.specs.Documents.{Documents, document}
 use Rattle.qsr_words.specs.Asked.{class_fits, is_rcc8_class}
 use Rattle.qsr_top.specs.Stops.{Cause, refuses, is_long}
 use Rattle.qsr_top.specs.Parts.{Then}
-use Rattle.qsr_top.specs.Numbers.{load_refusal, class_refusal, file_refusal}
-use Rattle.qsr_top.specs.Inputs.{BytesWithin, DocumentOf, TableOf, CalculusOf, ClassFileOf, ClassOf, Guided, IsGuided, CanGuide, CalculusAndClass, NetworkOf, SourceNetwork}
-use Rattle.qsr_top.specs.Told.{named_by_calculus, named_by_class}
-use Rattle.qsr_top.specs.Output.{CloseInput, Problem, IsProblem, SolveInput, Search, IsSearchOf}
+use Rattle.qsr_top.specs.Numbers.{load_refusal, class_refusal, file_refusal, cert_refusal}
+use Rattle.qsr_top.specs.Inputs.{BytesWithin, DocumentOf, TableOf, CalculusOf, ClassFileOf, ClassOf, Guided, IsGuided, CanGuide, CalculusAndClass, CertificateIn, CertificateOf, PolygonsAsked, NetworkOf, SourceNetwork, PlacedOn, PlacedNetwork, Searched, IsSearched, SearchedOf, Claimed, IsClaimed, ClaimedOf}
+use Rattle.qsr_top.specs.Told.{named_by_calculus, named_by_class, named_by_polygons}
 use Rattle.qsr_top.specs.declared.statuses.Place.{Place}
 use Rattle.qsr_top.proofs.Naming.{all_first, all_second}
 
@@ -52,7 +61,7 @@ second-there : {A B : Type 0} (P : Result A Cause → Type 0) (Q : A → Result 
 second-there P Q Known a p (value b q known) = value b (record { value = a; first = p; second = q }) known
 second-there P Q Known a p (stops c q) = stops c (inr (record { value = a; first = p; second = q }))
 
-Then-there : {A B : Type 0} (P : Result A Cause → Type 0) (Q : A → Result B Cause → Type 0) (First : A → Type 0) (Second : B → Type 0) →
+pub Then-there : {A B : Type 0} (P : Result A Cause → Type 0) (Q : A → Result B Cause → Type 0) (First : A → Type 0) (Second : B → Type 0) →
     There P First → ((a : A) → First a → There (Q a) Second) → There (Then P Q) Second
 Then-there P Q First Second (value a p known) more = second-there P Q Second a p (more a known)
 Then-there P Q First Second (stops c p) more = stops c (inl p)
@@ -135,7 +144,7 @@ module _ (documents : Documents) (word : List ℕ) where
       Then-there (DocumentOf documents word) TableOf (λ _. ⊤) (IsChosen false) (bytes-there (document documents word) (All-head (HasDocumentIn documents) word [] there)) (λ bytes _.
       known-weaker (TableOf bytes) IsNamedCalculus (IsChosen false) (λ c lawful. record { lawful = lawful; rcc8 = λ e. absurd (false≢true e) }) (TableOf-there bytes))
 
-  CalculusOf-there : AreThereIn documents (named_by_calculus word) → There (CalculusOf documents word) (IsOfWord word)
+  pub CalculusOf-there : AreThereIn documents (named_by_calculus word) → There (CalculusOf documents word) (IsOfWord word)
   CalculusOf-there there =
       known-weaker (CalculusOf documents word) (IsChosen (bytes_eq word (codes "rcc8"))) (IsOfWord word) (λ c k. record { lawful = k.lawful; rcc8 = k.rcc8 })
       (calculus-there (bytes_eq word (codes "rcc8")) (bytes_eq word (codes "allen")) (bytes_eq word (codes "point")) there)
@@ -202,9 +211,9 @@ fits_rcc8 false true h e = h
 fits_rcc8 false false h e = absurd (false≢true e)
 
 -- a lawful calculus, and a class that can guide a search over it
-record IsGuide (g : Guided) : Type 0 where
-  lawful : IsNamedCalculus g.calculus
-  guides : CanGuide g
+pub record IsGuide (g : Guided) : Type 0 where
+  pub lawful : IsNamedCalculus g.calculus
+  pub guides : CanGuide g
 
 CalculusAndClass-there : (documents : Documents) (calculus class : List ℕ) → class_fits calculus class ≡ true →
     AreThereIn documents (named_by_calculus calculus ++ named_by_class class) → There (CalculusAndClass documents calculus class) IsGuide
@@ -215,6 +224,38 @@ CalculusAndClass-there documents calculus class fits there =
     (ClassOf-there c known.lawful documents class (λ e. known.rcc8 (fits_rcc8 (bytes_eq calculus (codes "rcc8")) (is_rcc8_class class) fits e))
     (all_second (HasDocumentIn documents) (named_by_calculus calculus) (named_by_class class) there)) (λ k guides.
     value (record { calculus = c; class = k }) refl (record { lawful = known.lawful; guides = guides })))
+
+-- ---- certificates
+
+-- a scenario is there exactly where it is claimed
+abbrev HasClaimed : Certificate → Type 0
+HasClaimed certificate = IsScenarioFor certificate.claim certificate.scenario
+
+cert-numbered : (f : CertFault) → cert_laws.IsOfBytes f → HasNumber (cert_refusal f)
+cert-numbered cert.Memory h = absurd h
+cert-numbered cert.NotJson h = numbered _ _
+cert-numbered (cert.Field key index) h = numbered _ _
+
+refused-certificate : (bytes : List ℕ) (f : cert_laws.HasFault bytes) → HasNumber (cert_refusal f.fault) → There (CertificateIn bytes) HasClaimed
+refused-certificate bytes f n = stops (refuses n.number n.place) (record { fault = f.fault; refused = f.is; numbered = n.is })
+
+CertificateIn-there : (bytes : List ℕ) → There (CertificateIn bytes) HasClaimed
+CertificateIn-there bytes = elim (cert_answers.file-answered bytes) [
+  | inl c ↦ value c.certificate c.file (IsWritable-read c.file.value c.certificate c.file.is_made).forms.scenario
+  | inr f ↦ refused-certificate bytes f (cert-numbered f.fault f.of_bytes)
+]
+
+CertificateOf-there : (documents : Documents) (name : List ℕ) → HasDocumentIn documents name → There (CertificateOf documents name) HasClaimed
+CertificateOf-there documents name there =
+    Then-there (DocumentOf documents name) CertificateIn (λ _. ⊤) HasClaimed (bytes-there (document documents name) there) (λ bytes _. CertificateIn-there bytes)
+
+-- ---- no polygons
+
+abbrev AreNone : List NamedRing → Type 0
+AreNone polygons = polygons ≡ []
+
+PolygonsAsked-none : (documents : Documents) (asked : Option (List ℕ)) → asked ≡ None → There (PolygonsAsked documents asked) AreNone
+PolygonsAsked-none documents asked none = value [] (subst (λ o. PolygonsAsked documents o (Ok [])) (sym none) refl) refl
 
 -- ---- networks
 
@@ -228,13 +269,15 @@ file-numbered (file.Syntax line) h = numbered _ _
 file-numbered (file.Unknown line) h = numbered _ _
 file-numbered (file.NoEnd lines) h = numbered _ _
 
--- a network over the calculus
+-- a network over the calculus, whose names differ
 pub record IsOver (c : NamedAlgebra) (net : Network) : Type 0 where
   pub network : IsNetwork c.algebra net.nodes net.words
+  pub distinct : AreDistinct net.names
 
 file-over : (c : NamedAlgebra) (bytes : List ℕ) (net : Network) → IsFileOf c bytes net → IsOver c net
 file-over c bytes net file = record {
   network = subst (λ n. IsNetwork c.algebra n net.words) (sym file.network.nodes) (IsNetwork-from_facts c.algebra file.said.nodes file.said.facts net.words file.network.words);
+  distinct = file-names_distinct c bytes net file;
 }
 
 refused-network : (c : NamedAlgebra) (bytes : List ℕ) (f : file_laws.TextHasFault c bytes) → HasNumber (file_refusal f.fault) → There (NetworkOf c bytes) (IsOver c)
@@ -246,35 +289,54 @@ NetworkOf-there c bytes = elim (file-answered c bytes) [
   | inr f ↦ refused-network c bytes f (file-numbered f.fault f.of_text)
 ]
 
-SourceNetwork-there : (bytes : List ℕ) (c : NamedAlgebra) → There (SourceNetwork bytes c) (IsOver c)
+pub SourceNetwork-there : (bytes : List ℕ) (c : NamedAlgebra) → There (SourceNetwork bytes c) (IsOver c)
 SourceNetwork-there bytes c =
     Then-there (BytesWithin bytes) (NetworkOf c) (λ _. ⊤) (IsOver c) (BytesWithin-there bytes) (λ text _. NetworkOf-there c text)
 
--- ---- closing
+-- no polygons leave a network as it is
+PlacedOn-there : (c : NamedAlgebra) (net : Network) → IsOver c net → There (PlacedOn c [] net) (IsOver c)
+PlacedOn-there c net over = value net (record {
+  facts = [];
+  distinct = over.distinct;
+  nodes = λ k name less there. absurd (omega (arith, less));
+  are_facts = AreFactsOf-none net.names;
+  narrowed = refl;
+}) over
 
--- a lawful calculus, and a network over it
-pub record IsSound (p : Problem) : Type 0 where
-  pub lawful : IsNamedCalculus p.calculus
-  pub over : IsOver p.calculus p.network
+pub PlacedNetwork-there : (bytes : List ℕ) (c : NamedAlgebra) (polygons : List NamedRing) → polygons ≡ [] → There (PlacedNetwork bytes c polygons) (IsOver c)
+PlacedNetwork-there bytes c polygons none =
+    subst (λ ps. There (PlacedNetwork bytes c ps) (IsOver c)) (sym none)
+    (Then-there (SourceNetwork bytes c) (PlacedOn c []) (IsOver c) (IsOver c) (SourceNetwork-there bytes c) (PlacedOn-there c))
 
-pub CloseInput-there : (documents : Documents) (word bytes : List ℕ) → AreThereIn documents (named_by_calculus word) → There (CloseInput documents word bytes) IsSound
-CloseInput-there documents word bytes there =
-    Then-there (CalculusOf documents word) (λ c. Then (SourceNetwork bytes c) (IsProblem c)) (IsOfWord word) IsSound (CalculusOf-there documents word there) (λ c known.
-    Then-there (SourceNetwork bytes c) (IsProblem c) (IsOver c) IsSound (SourceNetwork-there bytes c) (λ net over.
-    value (record { calculus = c; network = net }) refl (record { lawful = known.lawful; over = over })))
+-- ---- what the documents give
 
--- ---- searching
+-- a lawful calculus, a class that can guide a search over it, and no polygons
+pub record IsSoundSearch (s : Searched) : Type 0 where
+  pub guide : IsGuide s.guided
+  pub none : s.polygons ≡ []
 
--- a lawful calculus, a class that can guide a search over it, and a network over it
-pub record IsSoundSearch (s : Search) : Type 0 where
-  pub lawful : IsNamedCalculus s.guided.calculus
-  pub guides : CanGuide s.guided
-  pub over : IsOver s.guided.calculus s.network
+pub SearchedOf-there : (documents : Documents) (calculus class : List ℕ) (polygons : Option (List ℕ)) → class_fits calculus class ≡ true → polygons ≡ None →
+    AreThereIn documents ((named_by_calculus calculus ++ named_by_class class) ++ named_by_polygons polygons) → There (SearchedOf documents calculus class polygons) IsSoundSearch
+SearchedOf-there documents calculus class polygons fits none there =
+    Then-there (CalculusAndClass documents calculus class) (λ g. Then (PolygonsAsked documents polygons) (IsSearched g)) IsGuide IsSoundSearch
+    (CalculusAndClass-there documents calculus class fits (all_first (HasDocumentIn documents) (named_by_calculus calculus ++ named_by_class class) (named_by_polygons polygons) there)) (λ g guide.
+    Then-there (PolygonsAsked documents polygons) (IsSearched g) AreNone IsSoundSearch (PolygonsAsked-none documents polygons none) (λ ps none.
+    value (record { guided = g; polygons = ps }) refl (record { guide = guide; none = none })))
 
-pub SolveInput-there : (documents : Documents) (calculus class bytes : List ℕ) → class_fits calculus class ≡ true →
-    AreThereIn documents (named_by_calculus calculus ++ named_by_class class) → There (SolveInput documents calculus class bytes) IsSoundSearch
-SolveInput-there documents calculus class bytes fits there =
-    Then-there (CalculusAndClass documents calculus class) (λ g. Then (SourceNetwork bytes g.calculus) (IsSearchOf g)) IsGuide IsSoundSearch
-    (CalculusAndClass-there documents calculus class fits there) (λ g known.
-    Then-there (SourceNetwork bytes g.calculus) (IsSearchOf g) (IsOver g.calculus) IsSoundSearch (SourceNetwork-there bytes g.calculus) (λ net over.
-    value (record { guided = g; network = net }) refl (record { lawful = known.lawful; guides = known.guides; over = over })))
+-- a lawful calculus, a certificate with a scenario exactly where one is claimed, and no polygons
+pub record IsSoundClaim (k : Claimed) : Type 0 where
+  pub lawful : IsNamedCalculus k.calculus
+  pub scenario : IsScenarioFor k.certificate.claim k.certificate.scenario
+  pub none : k.polygons ≡ []
+
+pub ClaimedOf-there : (documents : Documents) (calculus certificate : List ℕ) (polygons : Option (List ℕ)) → polygons ≡ None →
+    AreThereIn documents (named_by_calculus calculus ++ (certificate ∷ []) ++ named_by_polygons polygons) → There (ClaimedOf documents calculus certificate polygons) IsSoundClaim
+ClaimedOf-there documents calculus certificate polygons none there =
+    let named = all_first (HasDocumentIn documents) (named_by_calculus calculus ++ (certificate ∷ [])) (named_by_polygons polygons) there in
+    let file = all_second (HasDocumentIn documents) (named_by_calculus calculus) (certificate ∷ []) named in
+    Then-there (CalculusOf documents calculus) (λ c. Then (CertificateOf documents certificate) (λ x. Then (PolygonsAsked documents polygons) (IsClaimed c x))) (IsOfWord calculus) IsSoundClaim
+    (CalculusOf-there documents calculus (all_first (HasDocumentIn documents) (named_by_calculus calculus) (certificate ∷ []) named)) (λ c known.
+    Then-there (CertificateOf documents certificate) (λ x. Then (PolygonsAsked documents polygons) (IsClaimed c x)) HasClaimed IsSoundClaim
+    (CertificateOf-there documents certificate (All-head (HasDocumentIn documents) certificate [] file)) (λ x scenario.
+    Then-there (PolygonsAsked documents polygons) (IsClaimed c x) AreNone IsSoundClaim (PolygonsAsked-none documents polygons none) (λ ps none.
+    value (record { calculus = c; certificate = x; polygons = ps }) refl (record { lawful = known.lawful; scenario = scenario; none = none }))))

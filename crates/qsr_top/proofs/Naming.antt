@@ -5,6 +5,7 @@ use Rattle.std.specs.FinMap as map
 use Rattle.std.proofs.lemmas.List.Elements.{All-nil, All-cons, All-head, All-tail}
 use Rattle.qsr_outside.specs.Documents.{Documents}
 use Rattle.qsr_top.specs.Told.{told_where}
+use Rattle.qsr_top.specs.Answers.{OfNamed}
 
 -- ---- lists of names
 
@@ -25,24 +26,45 @@ pub none_second : {X : Type 0} (xs ys : List X) → xs ++ ys ≡ [] → ys ≡ [
 none_second [] ys e = e
 none_second (x ∷ xs) ys e = absurd cc
 
--- ---- what is told of the documents of names is told of those of more
+-- ---- told facts
 
--- where no document is named, what holds of some documents holds of any
-abbrev pub IsOfAny : List (List ℕ) → (Documents → Type 0) → Type 0
-IsOfAny names P = names ≡ [] → (d e : Documents) → P d → P e
+pub IfSome-weaker : {X : Type 0} (o : Option X) (P Q : X → Type 0) → ((x : X) → P x → Q x) → IfSome o P → IfSome o Q
+IfSome-weaker None P Q f h = tt
+IfSome-weaker (Some x) P Q f h = f x h
 
-told_any : (told : Option Documents) (P : Documents → Type 0) (d : Documents) → ((e : Documents) → P d → P e) → P d → IfSome told P
-told_any None P d any h = tt
-told_any (Some e) P d any h = any e h
+pub IfSome-two : {X : Type 0} (o : Option X) (P Q R : X → Type 0) → ((x : X) → P x → Q x → R x) → IfSome o P → IfSome o Q → IfSome o R
+IfSome-two None P Q R f h k = tt
+IfSome-two (Some x) P Q R f h k = f x h k
 
-pub told_first : (names more : List (List ℕ)) (told : Option Documents) (P : Documents → Type 0) → IsOfAny names P →
-    IfSome (told_where names told) P → IfSome (told_where (names ++ more) told) P
-told_first [] [] told P any h = h
-told_first [] (m ∷ more) told P any h = told_any told P map.empty (any refl map.empty) h
-told_first (n ∷ names) more told P any h = h
+pub told_all : {X : Type 0} (o : Option X) (P : X → Type 0) → ((x : X) → P x) → IfSome o P
+told_all None P f = tt
+told_all (Some x) P f = f x
 
-pub told_second : (names more : List (List ℕ)) (told : Option Documents) (P : Documents → Type 0) → IsOfAny more P →
-    IfSome (told_where more told) P → IfSome (told_where (names ++ more) told) P
-told_second [] more told P any h = h
-told_second (n ∷ names) [] told P any h = told_any told P map.empty (any refl map.empty) h
-told_second (n ∷ names) (m ∷ more) told P any h = h
+-- ---- facts of named documents
+
+pub named-weaker : (names : List (List ℕ)) (told : Option Documents) (P Q : Documents → Type 0) → ((d : Documents) → P d → Q d) →
+    OfNamed names told P → OfNamed names told Q
+named-weaker [] told P Q f h = λ d. f d (h d)
+named-weaker (n ∷ names) told P Q f h = IfSome-weaker told P Q f h
+
+-- a fact of one list of names and a fact of another make one of both lists
+pub named-both : (names more : List (List ℕ)) (told : Option Documents) (P Q R : Documents → Type 0) → ((d : Documents) → P d → Q d → R d) →
+    OfNamed names told P → OfNamed more told Q → OfNamed (names ++ more) told R
+named-both [] [] told P Q R f h k = λ d. f d (h d) (k d)
+named-both [] (m ∷ more) told P Q R f h k = IfSome-weaker told Q R (λ d q. f d (h d) q) k
+named-both (n ∷ names) [] told P Q R f h k = IfSome-weaker told P R (λ d p. f d p (k d)) h
+named-both (n ∷ names) (m ∷ more) told P Q R f h k = IfSome-two told P Q R f h k
+
+pub named-first : (names more : List (List ℕ)) (told : Option Documents) (P : Documents → Type 0) → OfNamed names told P → OfNamed (names ++ more) told P
+named-first [] [] told P h = h
+named-first [] (m ∷ more) told P h = told_all told P h
+named-first (n ∷ names) more told P h = h
+
+-- what is known of the documents of names is known of those that are told of them
+pub named-told : (names : List (List ℕ)) (told : Option Documents) (P : Documents → Type 0) → OfNamed names told P → IfSome (told_where names told) P
+named-told [] told P h = h map.empty
+named-told (n ∷ names) told P h = h
+
+pub named-always : (names : List (List ℕ)) (told : Option Documents) (P : Documents → Type 0) → ((d : Documents) → P d) → OfNamed names told P
+named-always [] told P f = f
+named-always (n ∷ names) told P f = told_all told P f

@@ -1,27 +1,35 @@
 -- One text and one status at most are permitted for what words ask for.
-use Rattle.std.proofs.Common.{◌≡◌, ℕ, List, [], Option, None, Some, Result, Ok, Err, refl, sym, ◌∙◌, ap, subst}
+use Rattle.std.proofs.Common.{◌≡◌, ℕ, List, [], ◌++◌, None, Some, Result, Ok, Err, refl, sym, ◌∙◌, ap, subst}
 use Rattle.calculus_table.specs.Calculus.{NamedAlgebra}
+use Rattle.calculus_builtin.specs.Rcc8.{rcc8_algebra}
+use Rattle.tract_classes.specs.BuiltIn.{h8}
 use Rattle.network_words.specs.Network.{Network}
+use Rattle.network_words.specs.Closure.{IsClosure}
 use Rattle.network_words.proofs.Networks.{IsClosure-unique}
 use Rattle.network_file.specs.NetworkText.{network_text}
+use Rattle.split_search.specs.Ruled.{IsVerdict}
+use Rattle.split_search.specs.Verdicts.{nodes_of}
+use Rattle.split_search.specs.declared.verdict.Verdict.{Verdict}
 use Rattle.split_search.proofs.OneVerdict.{verdict_one}
+use Rattle.geo_facts.proofs.OneDemo.{demo-one}
 use Rattle.qsr_outside.specs.Documents.{Documents}
-use Rattle.qsr_words.specs.Asked.{Asked, close, solve}
+use Rattle.qsr_words.specs.Asked.{Asked, SolveAsked, DemoAsked, close, solve, check, trace, relate, demo}
+use Rattle.qsr_words.specs.declared.TheConstants.{MAX_BUDGET}
 use Rattle.qsr_top.specs.Stops.{Cause, refuses, is_long}
-use Rattle.qsr_top.specs.Parts.{IsOne}
-use Rattle.qsr_top.specs.Output.{Output, OutputOf, Works, Problem, CloseInput, ClosesNetwork, Search, SolveInput, SolvesNetwork, verdict_text, verdict_status, IsClosureText, IsStatusOf, refusal_text}
+use Rattle.qsr_top.specs.Texts.{refusal_text, verdict_line}
+use Rattle.qsr_top.specs.Verdicts.{answer_text, verdict_status, verdict_word}
+use Rattle.qsr_top.specs.Demonstrations.{Demonstrates, demo_head, members_in_all}
+use Rattle.qsr_top.specs.Output.{OutputOf, Works, Input, InputOf, GivenTo, ReadBy, Makes, ClosesNetwork, SolvesNetwork, IsClosureText, IsStatusOf}
+use Rattle.qsr_top.specs.Laws.{OutputIsOne}
 use Rattle.qsr_top.specs.declared.statuses.Place.{Place}
 use Rattle.qsr_top.specs.declared.statuses.Status.{Status}
 use Rattle.qsr_top.specs.declared.statuses.Status.TheVariants.{Done, No, Refused, Budget, NotAccepted, TooLong}
 use Rattle.qsr_top.proofs.Parts.{same_value, value_or_cause}
-use Rattle.qsr_top.proofs.InputsOnce.{CloseInput-one, SolveInput-one}
+use Rattle.qsr_top.proofs.InputsOnce.{InputOf-one}
+use Rattle.qsr_top.proofs.CertificatesOnce.{IsSame, checks_once, traces_once}
+use Rattle.qsr_top.proofs.RelatedOnce.{relates_once}
 
--- the same text and the same status
-pub record IsSame (t u : List ℕ) (s r : Status) : Type 0 where
-  pub text : t ≡ u
-  pub status : s ≡ r
-
--- ---- the verdict
+-- ---- closing
 
 verdict_is_one : (closed : Network) (s r : Status) → IsStatusOf closed s → IsStatusOf closed r → s ≡ r
 verdict_is_one closed Done Done h k = refl
@@ -32,41 +40,86 @@ verdict_is_one closed Done _ h k = absurd k
 verdict_is_one closed No _ h k = absurd k
 verdict_is_one closed _ r h k = absurd h
 
--- over one calculus
-module _ (c : NamedAlgebra) where
-  same_closed : (net x y : Network) (t u : List ℕ) → IsClosureText c net x t → IsClosureText c net y u → x ≡ y
-  same_closed net x y t u p q =
+-- over one calculus and one network
+module _ (c : NamedAlgebra) (net : Network) where
+  same_closed : (x y : Network) (t u : List ℕ) → IsClosureText c net x t → IsClosureText c net y u → x ≡ y
+  same_closed x y t u p q =
       let words : x.words ≡ y.words = IsClosure-unique c.algebra net.nodes net.words x.words y.words p.closure q.closure in
       p.rest ∙ ap (λ w. record net { words = w }) words ∙ sym q.rest
 
-  closes_once : (net : Network) (t u : List ℕ) (s r : Status) → ClosesNetwork c net t s → ClosesNetwork c net u r → IsSame t u s r
-  closes_once net t u s r p q =
-      let closed : p.closed ≡ q.closed = same_closed net p.closed q.closed t u p.closure_text q.closure_text in
+  closes_once : (t u : List ℕ) (s r : Status) → ClosesNetwork c net t s → ClosesNetwork c net u r → IsSame t u s r
+  closes_once t u s r p q =
+      let closed : p.closed ≡ q.closed = same_closed p.closed q.closed t u p.closure_text q.closure_text in
       record {
         text = p.closure_text.text_is ∙ ap (network_text c) closed ∙ sym q.closure_text.text_is;
         status = verdict_is_one q.closed s r (subst (λ x. IsStatusOf x s) closed p.verdict) q.verdict;
       }
 
--- ---- what a command makes of its input, by the three kinds of its output
+  -- ---- searching
 
--- a value has one text and one status at most
-abbrev WorksOnce : {A : Type 0} → (A → List ℕ → Status → Type 0) → Type 0
-WorksOnce {A = A} Work = (a : A) (t u : List ℕ) (s r : Status) → Work a t s → Work a u r → IsSame t u s r
+  solves_once : (asked : SolveAsked) (class t u : List ℕ) (s r : Status) → SolvesNetwork asked c class net t s → SolvesNetwork asked c class net u r → IsSame t u s r
+  solves_once asked class t u s r h k =
+      let same : h.verdict ≡ k.verdict = verdict_one c.algebra net.nodes class asked.budget net.words h.verdict k.verdict h.ruled k.ruled in
+      record {
+        text = h.text_is ∙ ap (answer_text asked.is_cert c net) same ∙ sym k.text_is;
+        status = h.status_is ∙ ap verdict_status same ∙ sym k.status_is;
+      }
 
-module _ {A : Type 0} (Part : Result A Cause → Type 0) (Work : A → List ℕ → Status → Type 0) where
+-- ---- demonstrations
+
+module _ (asked : DemoAsked) (t u : List ℕ) (s r : Status) (h : Demonstrates asked t s) (k : Demonstrates asked u r) where
+  same_network : h.network ≡ k.network
+  same_network = (demo-one asked.seed asked.nodes h.network k.network h.kept k.kept h.is_demo k.is_demo).0
+
+  same_kept : h.kept ≡ k.kept
+  same_kept = (demo-one asked.seed asked.nodes h.network k.network h.kept k.kept h.is_demo k.is_demo).1
+
+  same_closure : h.closure ≡ k.closure
+  same_closure = IsClosure-unique rcc8_algebra k.network.nodes k.network.words h.closure k.closure
+      (subst (λ x. IsClosure rcc8_algebra x.nodes x.words h.closure) same_network h.is_closure) k.is_closure
+
+  same_verdict : h.verdict ≡ k.verdict
+  same_verdict = verdict_one rcc8_algebra k.network.nodes h8 MAX_BUDGET k.network.words h.verdict k.verdict
+      (subst (λ x. IsVerdict rcc8_algebra x.nodes h8 MAX_BUDGET x.words h.verdict) same_network h.ruled) k.ruled
+
+  demonstrates_once : IsSame t u s r
+  demonstrates_once =
+      let tail : Verdict → List ℕ = λ v. verdict_line (verdict_word v) (nodes_of v) in
+      record {
+        text = h.text_is
+            ∙ ap (λ x. demo_head asked x (members_in_all h.closure) ++ tail h.verdict) same_kept
+            ∙ ap (λ x. demo_head asked k.kept (members_in_all x) ++ tail h.verdict) same_closure
+            ∙ ap (λ x. demo_head asked k.kept (members_in_all k.closure) ++ tail x) same_verdict
+            ∙ sym k.text_is;
+        status = h.status_is ∙ ap verdict_status same_verdict ∙ sym k.status_is;
+      }
+
+-- ---- what a command makes of its input
+
+makes_once : (asked : Asked) (given : GivenTo asked) (read : ReadBy asked) (t u : List ℕ) (s r : Status) → Makes asked given read t s → Makes asked given read u r → IsSame t u s r
+makes_once (close asked) c net t u s r h k = closes_once c net t u s r h k
+makes_once (solve asked) given net t u s r h k = solves_once given.guided.calculus net asked given.guided.class t u s r h k
+makes_once (check asked) given net t u s r h k = checks_once given.calculus net given.certificate t u s r h k
+makes_once (trace asked) given net t u s r h k = traces_once given.calculus net given.certificate t u s r h k
+makes_once (relate asked) given read t u s r h k = record { text = relates_once given t u h.0 k.0; status = h.1 ∙ sym k.1 }
+makes_once (demo asked) given read t u s r h k = demonstrates_once asked t u s r h k
+
+-- ---- by the three kinds of its output
+
+module _ (asked : Asked) (documents : Documents) (bytes : List ℕ) where
   record IsRefused (t : List ℕ) (s : Status) : Type 0 where
     number : ℕ
     place : Place
-    refused : Part (Err (refuses number place))
+    refused : InputOf asked documents bytes (Err (refuses number place))
     text : t ≡ refusal_text number place
     status : s ≡ Refused number place
 
   data Kind (t : List ℕ) (s : Status) : Type 0 where
-    works : Works Part Work t s → Kind t s
+    works : Works asked documents bytes t s → Kind t s
     refused : IsRefused t s → Kind t s
-    too_long : Part (Err is_long) → t ≡ [] → s ≡ TooLong → Kind t s
+    too_long : InputOf asked documents bytes (Err is_long) → t ≡ [] → s ≡ TooLong → Kind t s
 
-  kind_of : (t : List ℕ) (s : Status) → OutputOf Part Work t s → Kind t s
+  kind_of : (t : List ℕ) (s : Status) → OutputOf asked documents bytes t s → Kind t s
   kind_of t Done h = works h
   kind_of t No h = works h
   kind_of t Budget h = works h
@@ -75,52 +128,41 @@ module _ {A : Type 0} (Part : Result A Cause → Type 0) (Work : A → List ℕ 
   kind_of t TooLong h = too_long h.0 h.1 refl
   kind_of t _ h = absurd h
 
-  module _ (one : IsOne Part) (once : WorksOnce Work) where
-    kinds_once : (t u : List ℕ) (s r : Status) → Kind t s → Kind u r → IsSame t u s r
-    kinds_once t u s r (works h) (works k) = once k.value t u s r (subst (λ a. Work a t s) (same_value h.value k.value (Ok h.value) (Ok k.value) refl refl (one (Ok h.value) (Ok k.value) h.input k.input)) h.work) k.work
-    kinds_once t u s r (works h) (refused k) = absurd (value_or_cause h.value (refuses k.number k.place) _ _ refl refl (one (Ok h.value) (Err (refuses k.number k.place)) h.input k.refused))
-    kinds_once t u s r (works h) (too_long p x y) = absurd (value_or_cause h.value is_long _ _ refl refl (one (Ok h.value) (Err is_long) h.input p))
-    kinds_once t u s r (refused h) (works k) = absurd (value_or_cause k.value (refuses h.number h.place) _ _ refl refl (one (Ok k.value) (Err (refuses h.number h.place)) k.input h.refused))
-    kinds_once t u s r (refused h) (refused k) =
-        let e = one (Err (refuses h.number h.place)) (Err (refuses k.number k.place)) h.refused k.refused in
-        let numbers : h.number ≡ k.number = cc in
-        let places : h.place ≡ k.place = cc in
-        record {
-          text = h.text ∙ ap (λ n. refusal_text n h.place) numbers ∙ ap (refusal_text k.number) places ∙ sym k.text;
-          status = h.status ∙ ap (λ n. Refused n h.place) numbers ∙ ap (Refused k.number) places ∙ sym k.status;
-        }
-    kinds_once t u s r (refused h) (too_long p x y) = let e = one (Err (refuses h.number h.place)) (Err is_long) h.refused p in absurd cc
-    kinds_once t u s r (too_long p x y) (works k) = absurd (value_or_cause k.value is_long _ _ refl refl (one (Ok k.value) (Err is_long) k.input p))
-    kinds_once t u s r (too_long p x y) (refused k) = let e = one (Err is_long) (Err (refuses k.number k.place)) p k.refused in absurd cc
-    kinds_once t u s r (too_long p x y) (too_long q z w) = record { text = x ∙ sym z; status = y ∙ sym w }
+  -- the input has one value or one cause
+  one : (x y : Result (Input asked) Cause) → InputOf asked documents bytes x → InputOf asked documents bytes y → x ≡ y
+  one = InputOf-one asked documents bytes
 
--- ---- all commands
+  works_once : (t u : List ℕ) (s r : Status) → Works asked documents bytes t s → Works asked documents bytes u r → IsSame t u s r
+  works_once t u s r h k =
+      let same : h.value ≡ k.value = same_value h.value k.value (Ok h.value) (Ok k.value) refl refl (one (Ok h.value) (Ok k.value) h.input k.input) in
+      makes_once asked k.value.given k.value.read t u s r (subst (λ (v : Input asked). Makes asked v.given v.read t s) same h.work) k.work
 
-problems_once : WorksOnce {A = Problem} (λ p. ClosesNetwork p.calculus p.network)
-problems_once p t u s r h k = closes_once p.calculus p.network t u s r h k
+  works_or_stops : (t : List ℕ) (s : Status) (cause : Cause) → Works asked documents bytes t s → InputOf asked documents bytes (Err cause) → ⊥
+  works_or_stops t s cause h k = value_or_cause h.value cause _ _ refl refl (one (Ok h.value) (Err cause) h.input k)
 
-searches_once : (budget : ℕ) → WorksOnce {A = Search} (SolvesNetwork budget)
-searches_once budget p t u s r h k =
-    let c = p.guided.calculus in
-    let same = verdict_one c.algebra p.network.nodes p.guided.class budget p.network.words h.verdict k.verdict h.ruled k.ruled in
-    record {
-      text = h.text_is ∙ ap (verdict_text c p.network) same ∙ sym k.text_is;
-      status = h.status_is ∙ ap verdict_status same ∙ sym k.status_is;
-    }
+  kinds_once : (t u : List ℕ) (s r : Status) → Kind t s → Kind u r → IsSame t u s r
+  kinds_once t u s r (works h) (works k) = works_once t u s r h k
+  kinds_once t u s r (works h) (refused k) = absurd (works_or_stops t s (refuses k.number k.place) h k.refused)
+  kinds_once t u s r (works h) (too_long p x y) = absurd (works_or_stops t s is_long h p)
+  kinds_once t u s r (refused h) (works k) = absurd (works_or_stops u r (refuses h.number h.place) k h.refused)
+  kinds_once t u s r (refused h) (refused k) =
+      let e = one (Err (refuses h.number h.place)) (Err (refuses k.number k.place)) h.refused k.refused in
+      let numbers : h.number ≡ k.number = cc in
+      let places : h.place ≡ k.place = cc in
+      record {
+        text = h.text ∙ ap (λ n. refusal_text n h.place) numbers ∙ ap (refusal_text k.number) places ∙ sym k.text;
+        status = h.status ∙ ap (λ n. Refused n h.place) numbers ∙ ap (Refused k.number) places ∙ sym k.status;
+      }
+  kinds_once t u s r (refused h) (too_long p x y) = let e = one (Err (refuses h.number h.place)) (Err is_long) h.refused p in absurd cc
+  kinds_once t u s r (too_long p x y) (works k) = absurd (works_or_stops u r is_long k p)
+  kinds_once t u s r (too_long p x y) (refused k) = let e = one (Err is_long) (Err (refuses k.number k.place)) p k.refused in absurd cc
+  kinds_once t u s r (too_long p x y) (too_long q z w) = record { text = x ∙ sym z; status = y ∙ sym w }
 
--- a command has one text and one status at most, where its input has one value or one cause and its work one outcome
-command_once : {A : Type 0} (Part : Result A Cause → Type 0) (Work : A → List ℕ → Status → Type 0) → IsOne Part → WorksOnce Work →
-    (t u : List ℕ) (s r : Status) → OutputOf Part Work t s → OutputOf Part Work u r → (t ≡ u) × (s ≡ r)
-command_once Part Work one once t u s r p q =
-    let same = kinds_once Part Work one once t u s r (kind_of Part Work t s p) (kind_of Part Work u r q) in
-    (same.text, same.status)
+  command_once : (t u : List ℕ) (s r : Status) → OutputOf asked documents bytes t s → OutputOf asked documents bytes u r → (t ≡ u) × (s ≡ r)
+  command_once t u s r p q = let same = kinds_once t u s r (kind_of t s p) (kind_of u r q) in (same.text, same.status)
 
-pub output_once : (asked : Option Asked) (documents : Documents) (bytes t u : List ℕ) (s r : Status) →
-    Output asked documents bytes t s → Output asked documents bytes u r → (t ≡ u) × (s ≡ r)
+-- ---- all words
+
+pub output_once : OutputIsOne
 output_once None documents bytes t u s r p q = (p.1 ∙ sym q.1, p.0 ∙ sym q.0)
-output_once (Some (close asked)) documents bytes t u s r p q =
-    command_once (CloseInput documents asked.calculus bytes) (λ p. ClosesNetwork p.calculus p.network)
-    (CloseInput-one documents asked.calculus bytes) problems_once t u s r p q
-output_once (Some (solve asked)) documents bytes t u s r p q =
-    command_once (SolveInput documents asked.calculus asked.class bytes) (SolvesNetwork asked.budget)
-    (SolveInput-one documents asked.calculus asked.class bytes) (searches_once asked.budget) t u s r p q
+output_once (Some asked) documents bytes t u s r p q = command_once asked documents bytes t u s r p q

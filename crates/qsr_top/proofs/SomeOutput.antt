@@ -1,9 +1,10 @@
--- One text and one status at least are permitted for what words ask for, where the documents that they name are there.
-use Rattle.std.proofs.Common.{ℕ, suc, List, [], ◌∷◌, None, Some, Result, Ok, Err, ◌⊎◌, inl, inr, refl, arith}
+-- One text and one status at least are permitted for what words ask for, where the documents that they name are there, and no
+-- polygons are asked for.
+use Rattle.std.proofs.Common.{ℕ, suc, List, [], ◌∷◌, None, Some, Ok, Err, ◌⊎◌, inl, inr, refl, arith}
 use Rattle.std.specs.Prelude.{Contains}
 use Rattle.std.proofs.lemmas.Bool.{cases_eq}
 use Rattle.std.proofs.lemmas.Map.Made.{Contains-tail}
-use Rattle.calculus_table.specs.Calculus.{NamedAlgebra}
+use Rattle.calculus_table.specs.Calculus.{NamedAlgebra, IsNamedCalculus}
 use Rattle.network_words.specs.Network.{Network}
 use Rattle.network_words.proofs.Existence.{closure_of}
 use Rattle.network_file.specs.NetworkText.{network_text}
@@ -11,18 +12,22 @@ use Rattle.split_search.specs.declared.verdict.Verdict.{Verdict}
 use Rattle.split_search.specs.declared.verdict.Verdict.TheVariants as verdict
 use Rattle.split_search.proofs.SomeVerdict.{verdict_exists}
 use Rattle.qsr_outside.specs.Documents.{Documents}
-use Rattle.qsr_words.specs.Asked.{close, solve}
+use Rattle.qsr_words.specs.Asked.{Asked, SolveAsked, close, solve, check, trace, relate, demo}
 use Rattle.qsr_top.specs.Stops.{Cause, refuses, is_long}
-use Rattle.qsr_top.specs.Output.{OutputOf, Works, Problem, CloseInput, ClosesNetwork, Search, SolveInput, SolvesNetwork, verdict_text, verdict_status, refusal_text, usage_text}
-use Rattle.qsr_top.specs.SinkAfter.{IsSearchStatus}
-use Rattle.qsr_top.specs.Laws.{OutputIsThere}
-use Rattle.qsr_top.specs.declared.statuses.Status.{Status}
+use Rattle.qsr_top.specs.Parts.{Then}
+use Rattle.qsr_top.specs.Texts.{usage_text, refusal_text}
+use Rattle.qsr_top.specs.Inputs.{Guided, Searched, Claimed}
+use Rattle.qsr_top.specs.Verdicts.{answer_text, verdict_status}
+use Rattle.qsr_top.specs.Output.{ClosesNetwork, SolvesNetwork, GivenTo, ReadBy, DocumentsGive, SourceGives, Makes, Input, IsInput, InputOf}
+use Rattle.qsr_top.specs.Ends.{IsAnswered}
+use Rattle.qsr_top.specs.Laws.{HasOutput, OutputIsThere}
 use Rattle.qsr_top.specs.declared.statuses.Status.TheVariants.{Done, No, Usage, Refused, TooLong}
-use Rattle.qsr_top.proofs.InputsThere.{There, value, stops, IsSound, CloseInput-there, IsSoundSearch, SolveInput-there}
+use Rattle.qsr_top.proofs.InputsThere.{There, value, stops, Then-there, IsOfWord, CalculusOf-there, SourceNetwork-there, PlacedNetwork-there, IsOver, IsGuide, IsSoundSearch, SearchedOf-there, IsSoundClaim, ClaimedOf-there}
+use Rattle.qsr_top.proofs.SomeCertificates.{Made, checks_there, traces_there}
 use Rattle.qsr_top.proofs.Verdicts.{verdict_true, no_rules_out}
-use Rattle.qsr_top.proofs.Working.{works_output}
+use Rattle.qsr_top.proofs.Working.{working_output}
 
--- ---- the verdict
+-- ---- closing
 
 zero_or_not : (words : List ℕ) → Contains words 0 ⊎ (¬ Contains words 0)
 zero_or_not [] = inr (λ h. omega (arith, h.1))
@@ -34,92 +39,106 @@ zero_or_not (w ∷ ws) = elim (cases_eq w 0) [
   ]
 ]
 
--- what closing gives, by its verdict
-data Closes (p : Problem) : Type 0 where
-  done : (text : List ℕ) → ClosesNetwork p.calculus p.network text Done → Closes p
-  not_possible : (text : List ℕ) → ClosesNetwork p.calculus p.network text No → Closes p
+-- over a lawful calculus
+module _ (c : NamedAlgebra) (net : Network) (lawful : IsNamedCalculus c) (over : IsOver c net) where
+  closes : Made (ClosesNetwork c net)
+  closes =
+      let closure = closure_of c.algebra net.nodes net.words lawful.lawful over.network in
+      let closed : Network = record net { words = closure.0 } in
+      let text : List ℕ = network_text c closed in
+      elim (zero_or_not closure.0) [
+        | inl empty ↦ record {
+          text = text;
+          status = No;
+          answered = tt;
+          work = record { closed = closed; closure_text = record { rest = refl; closure = closure.1; text_is = refl }; verdict = empty };
+        }
+        | inr none ↦ record {
+          text = text;
+          status = Done;
+          answered = tt;
+          work = record { closed = closed; closure_text = record { rest = refl; closure = closure.1; text_is = refl }; verdict = none };
+        }
+      ]
 
-closes : (p : Problem) → IsSound p → Closes p
-closes p sound =
-    let c : NamedAlgebra = p.calculus in
-    let net : Network = p.network in
-    let closure = closure_of c.algebra net.nodes net.words sound.lawful.lawful sound.over.network in
-    let closed : Network = record net { words = closure.0 } in
-    let text : List ℕ = network_text c closed in
-    elim (zero_or_not closure.0) [
-      | inl empty ↦ not_possible text (record { closed = closed; closure_text = record { rest = refl; closure = closure.1; text_is = refl }; verdict = empty })
-      | inr none ↦ done text (record { closed = closed; closure_text = record { rest = refl; closure = closure.1; text_is = refl }; verdict = none })
-    ]
+-- ---- searching
 
--- ---- the verdict of a search
+verdict_answers : (v : Verdict) → IsAnswered (verdict_status v)
+verdict_answers (verdict.Yes relations nodes) = tt
+verdict_answers (verdict.No nodes) = tt
+verdict_answers (verdict.Budget nodes) = tt
 
--- what a search gives, by its verdict
-data Solves (budget : ℕ) (s : Search) : Type 0 where
-  solves : (text : List ℕ) (status : Status) → IsSearchStatus status → SolvesNetwork budget s text status → Solves budget s
+solves : (asked : SolveAsked) (g : Guided) (net : Network) → IsGuide g → IsOver g.calculus net → Made (SolvesNetwork asked g.calculus g.class net)
+solves asked g net guide over =
+    let c : NamedAlgebra = g.calculus in
+    let v = verdict_exists c.algebra net.nodes g.class asked.budget net.words guide.lawful.lawful over.network guide.guides.is_class guide.guides.bases in
+    let is_true = verdict_true g net asked.budget v.0 guide.lawful.lawful over.network guide.guides v.1 in
+    record {
+      text = answer_text asked.is_cert c net v.0;
+      status = verdict_status v.0;
+      answered = verdict_answers v.0;
+      work = record {
+        verdict = v.0;
+        ruled = v.1;
+        is_true = is_true;
+        rules_out = no_rules_out c net asked.budget v.0 guide.lawful.lawful over.network is_true;
+        text_is = refl;
+        status_is = refl;
+      };
+    }
 
-status_of_verdict : (v : Verdict) → IsSearchStatus (verdict_status v)
-status_of_verdict (verdict.Yes relations nodes) = tt
-status_of_verdict (verdict.No nodes) = tt
-status_of_verdict (verdict.Budget nodes) = tt
+-- ---- a command
 
-solved : (budget : ℕ) (s : Search) → IsSoundSearch s → Solves budget s
-solved budget s sound =
-    let c : NamedAlgebra = s.guided.calculus in
-    let net : Network = s.network in
-    let v = verdict_exists c.algebra net.nodes s.guided.class budget net.words sound.lawful.lawful sound.over.network sound.guides.is_class sound.guides.bases in
-    let is_true = verdict_true s.guided net budget v.0 sound.lawful.lawful sound.over.network sound.guides v.1 in
-    solves (verdict_text c net v.0) (verdict_status v.0) (status_of_verdict v.0) (record {
-      verdict = v.0;
-      ruled = v.1;
-      is_true = is_true;
-      rules_out = no_rules_out c net budget v.0 sound.lawful.lawful sound.over.network is_true;
-      text_is = refl;
-      status_is = refl;
-    })
+module _ (asked : Asked) (documents : Documents) (bytes : List ℕ) (Given : GivenTo asked → Type 0) (Read : GivenTo asked → ReadBy asked → Type 0) where
+  -- what is known of an input
+  record Known (input : Input asked) : Type 0 where
+    given : Given input.given
+    read : Read input.given input.read
 
--- ---- the output
+  input_there : There (DocumentsGive asked documents) Given → ((g : GivenTo asked) → Given g → There (SourceGives asked bytes g) (Read g)) → There (InputOf asked documents bytes) Known
+  input_there first more =
+      Then-there (DocumentsGive asked documents) (λ g. Then (SourceGives asked bytes g) (IsInput asked g)) Given Known first (λ g given.
+      Then-there (SourceGives asked bytes g) (IsInput asked g) (Read g) Known (more g given) (λ r read.
+      value (record { given = g; read = r }) refl (record { given = given; read = read })))
 
-module _ {A : Type 0} (Part : Result A Cause → Type 0) (Work : A → List ℕ → Status → Type 0) where
-  record HasOut : Type 0 where
-    text : List ℕ
-    status : Status
-    output : OutputOf Part Work text status
+  worked_out : (i : Input asked) → InputOf asked documents bytes (Ok i) → Made (Makes asked i.given i.read) → HasOutput (Some asked) documents bytes
+  worked_out i input made = record {
+    text = made.text;
+    status = made.status;
+    output = working_output asked documents bytes made.text made.status made.answered (record { value = i; input = input; work = made.work });
+  }
 
-  worked_out : (text : List ℕ) (status : Status) → IsSearchStatus status → Works Part Work text status → HasOut
-  worked_out text status is works = record { text = text; status = status; output = works_output Part Work text status is works }
-
-  stopped_out : (c : Cause) → Part (Err c) → HasOut
+  stopped_out : (cause : Cause) → InputOf asked documents bytes (Err cause) → HasOutput (Some asked) documents bytes
   stopped_out (refuses number place) h = record { text = refusal_text number place; status = Refused number place; output = (h, refl) }
   stopped_out is_long h = record { text = []; status = TooLong; output = (h, refl) }
 
-module _ (documents : Documents) (word bytes : List ℕ) where
-  abbrev CloseOut : Type 0
-  CloseOut = HasOut (CloseInput documents word bytes) (λ p. ClosesNetwork p.calculus p.network)
+  some_output : There (InputOf asked documents bytes) Known → ((g : GivenTo asked) (r : ReadBy asked) → Given g → Read g r → Made (Makes asked g r)) → HasOutput (Some asked) documents bytes
+  some_output (value i input known) make = worked_out i input (make i.given i.read known.given known.read)
+  some_output (stops cause h) make = stopped_out cause h
 
-  closed_out : (p : Problem) → CloseInput documents word bytes (Ok p) → Closes p → CloseOut
-  closed_out p input (done text work) = worked_out _ _ text Done tt (record { value = p; input = input; work = work })
-  closed_out p input (not_possible text work) = worked_out _ _ text No tt (record { value = p; input = input; work = work })
+  -- what the documents give is there, then what the source gives, and then what the command makes of both
+  command_out : There (DocumentsGive asked documents) Given → ((g : GivenTo asked) → Given g → There (SourceGives asked bytes g) (Read g)) →
+      ((g : GivenTo asked) (r : ReadBy asked) → Given g → Read g r → Made (Makes asked g r)) → HasOutput (Some asked) documents bytes
+  command_out first more make = some_output (input_there first more) make
 
-  close_out : There (CloseInput documents word bytes) IsSound → CloseOut
-  close_out (value p input sound) = closed_out p input (closes p sound)
-  close_out (stops c h) = stopped_out _ _ c h
-
-module _ (documents : Documents) (calculus class bytes : List ℕ) (budget : ℕ) where
-  abbrev SolveOut : Type 0
-  SolveOut = HasOut (SolveInput documents calculus class bytes) (SolvesNetwork budget)
-
-  solved_out : (s : Search) → SolveInput documents calculus class bytes (Ok s) → Solves budget s → SolveOut
-  solved_out s input (solves text status is work) = worked_out _ _ text status is (record { value = s; input = input; work = work })
-
-  solve_out : There (SolveInput documents calculus class bytes) IsSoundSearch → SolveOut
-  solve_out (value s input sound) = solved_out s input (solved budget s sound)
-  solve_out (stops c h) = stopped_out _ _ c h
+-- ---- all words
 
 pub output_there : OutputIsThere
-output_there None documents bytes fits there = record { text = usage_text; status = Usage; output = (refl, refl) }
-output_there (Some (close asked)) documents bytes fits there =
-    let o = close_out documents asked.calculus bytes (CloseInput-there documents asked.calculus bytes there) in
-    record { text = o.text; status = o.status; output = o.output }
-output_there (Some (solve asked)) documents bytes fits there =
-    let o = solve_out documents asked.calculus asked.class bytes asked.budget (SolveInput-there documents asked.calculus asked.class bytes fits there) in
-    record { text = o.text; status = o.status; output = o.output }
+output_there None documents bytes fits none there = record { text = usage_text; status = Usage; output = (refl, refl) }
+output_there (Some (close asked)) documents bytes fits none there =
+    command_out (close asked) documents bytes (IsOfWord asked.calculus) IsOver (CalculusOf-there documents asked.calculus there) (λ c known. SourceNetwork-there bytes c)
+    (λ c net known over. closes c net known.lawful over)
+output_there (Some (solve asked)) documents bytes fits none there =
+    command_out (solve asked) documents bytes IsSoundSearch (λ (g : Searched) (net : Network). IsOver g.guided.calculus net)
+    (SearchedOf-there documents asked.calculus asked.class asked.polygons fits.0 none there)
+    (λ g known. PlacedNetwork-there bytes g.guided.calculus g.polygons known.none) (λ g net known over. solves asked g.guided net known.guide over)
+output_there (Some (check asked)) documents bytes fits none there =
+    command_out (check asked) documents bytes IsSoundClaim (λ (k : Claimed) (net : Network). IsOver k.calculus net)
+    (ClaimedOf-there documents asked.calculus asked.certificate asked.polygons none there)
+    (λ k known. PlacedNetwork-there bytes k.calculus k.polygons known.none) (λ k net known over. checks_there k.calculus net known.lawful over k.certificate known.scenario)
+output_there (Some (trace asked)) documents bytes fits none there =
+    command_out (trace asked) documents bytes IsSoundClaim (λ (k : Claimed) (net : Network). IsOver k.calculus net)
+    (ClaimedOf-there documents asked.calculus asked.certificate asked.polygons none there)
+    (λ k known. PlacedNetwork-there bytes k.calculus k.polygons known.none) (λ k net known over. traces_there k.calculus net known.lawful over k.certificate known.scenario)
+output_there (Some (relate asked)) documents bytes fits none there = absurd none
+output_there (Some (demo asked)) documents bytes fits none there = absurd none

@@ -1,7 +1,5 @@
 -- What the verdict on a network's closure says of the network.
-use Rattle.std.proofs.Common.{◌≡◌, ℕ, List, ◌++◌, codes, Result, Ok, Err, refl, ap, ◌∙◌, subst, sym}
-use Rattle.std.specs.Prelude.{IfOk}
-use Rattle.std.specs.String.{string_bytes}
+use Rattle.std.proofs.Common.{◌≡◌, ℕ, Bool, true, false, List, ◌++◌, codes, refl, ap, ◌∙◌, subst, sym}
 use Rattle.calculus_table.specs.Algebra.{Algebra}
 use Rattle.calculus_table.specs.Calculus.{NamedAlgebra, IsCalculus}
 use Rattle.network_words.specs.Network.{Network, IsNetwork}
@@ -9,6 +7,7 @@ use Rattle.network_words.specs.Closure.{IsClosure}
 use Rattle.network_words.proofs.Networks.{Refines-refl, IsClosure-unique, IsClosure-between}
 use Rattle.network_words.specs.Scenario.{as_network}
 use Rattle.network_file.specs.NetworkText.{network_text}
+use Rattle.cert_file.specs.Written.{certificate_text}
 use Rattle.refutation.specs.Tree.{TreeNode, NestedTree}
 use Rattle.refutation.proofs.NoScenarios.{refuted-none}
 use Rattle.split_search.specs.Ruled.{HasTree, IsVerdict}
@@ -18,8 +17,11 @@ use Rattle.split_search.specs.declared.verdict.Verdict.TheVariants.{Yes, No, Bud
 use Rattle.split_search.proofs.Truths.{verdict-true}
 use Rattle.split_search.proofs.Networks.{closure-network}
 use Rattle.qsr_top.specs.Inputs.{Guided, CanGuide}
-use Rattle.qsr_top.specs.Output.{HasScenario, RulesOut, SolvesNetwork, verdict_line, verdict_status, verdict_text}
-use Rattle.qsr_top.specs.declared.answers.Answer.{Answer}
+use Rattle.qsr_words.specs.Asked.{SolveAsked}
+use Rattle.qsr_top.specs.Texts.{verdict_line}
+use Rattle.qsr_top.specs.Certificates.{certificate_of}
+use Rattle.qsr_top.specs.Verdicts.{HasScenario, RulesOut, verdict_status, verdict_text, answer_text}
+use Rattle.qsr_top.specs.Output.{SolvesNetwork}
 use Rattle.qsr_top.specs.declared.statuses.Status.{Status}
 
 module _ (m : Algebra) (n : ℕ) (words closed : List ℕ) (closure : IsClosure m n words closed) where
@@ -75,24 +77,31 @@ module _ (g : Guided) (net closed : Network) (lawful : IsCalculus g.calculus.alg
   same_text (No nodes) = refl
   same_text (Budget nodes) = refl
 
+  same_certificate : (v : Verdict) → certificate_text (certificate_of g.calculus closed v) ≡ certificate_text (certificate_of g.calculus net v)
+  same_certificate v = ap (λ n. certificate_text (certificate_of g.calculus n v)) rest ∙ of_nodes v
+    where
+      -- only the number of nodes is in the certificate
+      of_nodes : (w : Verdict) → certificate_text (certificate_of g.calculus (record net { words = closed.words }) w) ≡ certificate_text (certificate_of g.calculus net w)
+      of_nodes (Yes relations nodes) = refl
+      of_nodes (No nodes) = refl
+      of_nodes (Budget nodes) = refl
+
+  pub same_answer : (is_cert : Bool) (v : Verdict) → answer_text is_cert g.calculus closed v ≡ answer_text is_cert g.calculus net v
+  same_answer true v = same_certificate v
+  same_answer false v = same_text v
+
   -- the verdict on the closed network, with its text, solves the network
-  solves_by_closure : (budget : ℕ) (v : Verdict) (text : List ℕ) (status : Status) → IsVerdict g.calculus.algebra closed.nodes g.class budget closed.words v →
-      text ≡ verdict_text g.calculus closed v → status ≡ verdict_status v → SolvesNetwork budget (record { guided = g; network = net }) text status
-  solves_by_closure budget v text status h t s =
-      let own = subst (λ n. IsVerdict g.calculus.algebra n g.class budget closed.words v) same_nodes h in
-      let ruled = verdict_of_closure g.calculus.algebra net.nodes net.words closed.words closure g.class budget v own in
+  pub solves_by_closure : (asked : SolveAsked) (v : Verdict) (text : List ℕ) (status : Status) → IsVerdict g.calculus.algebra closed.nodes g.class asked.budget closed.words v →
+      text ≡ answer_text asked.is_cert g.calculus closed v → status ≡ verdict_status v → SolvesNetwork asked g.calculus g.class net text status
+  solves_by_closure asked v text status h t s =
+      let own = subst (λ n. IsVerdict g.calculus.algebra n g.class asked.budget closed.words v) same_nodes h in
+      let ruled = verdict_of_closure g.calculus.algebra net.nodes net.words closed.words closure g.class asked.budget v own in
+      let is_true = verdict_true g net asked.budget v lawful network guides ruled in
       record {
         verdict = v;
         ruled = ruled;
-        is_true = verdict_true g net budget v lawful network guides ruled;
-        rules_out = no_rules_out g.calculus net budget v lawful network (verdict_true g net budget v lawful network guides ruled);
-        text_is = t ∙ same_text v;
+        is_true = is_true;
+        rules_out = no_rules_out g.calculus net asked.budget v lawful network is_true;
+        text_is = t ∙ same_answer asked.is_cert v;
         status_is = s;
       }
-
-  -- so an answer with its text and status solves the network
-  pub answer_solves : {E : Type 0} (budget : ℕ) (v : Verdict) (r : Result Answer E) → IsVerdict g.calculus.algebra closed.nodes g.class budget closed.words v →
-      IfOk r (λ a. string_bytes a.text ≡ verdict_text g.calculus closed v) → IfOk r (λ a. a.status ≡ verdict_status v) →
-      IfOk r (λ a. SolvesNetwork budget (record { guided = g; network = net }) (string_bytes a.text) a.status)
-  answer_solves budget v (Err e) h t s = tt
-  answer_solves budget v (Ok a) h t s = solves_by_closure budget v (string_bytes a.text) a.status h t s

@@ -2,7 +2,7 @@
 use Rattle.std.specs.Prelude.{Option, None, Some}
 use Rattle.qsr_outside.specs.declared.reading.ReadStop.{ReadStop}
 use Rattle.qsr_outside.specs.declared.reading.ReadStop.TheVariants as stop
-use Rattle.qsr_words.specs.Asked.{Asked, close, solve}
+use Rattle.qsr_words.specs.Asked.{Asked, close, solve, check, trace, relate, demo}
 use Rattle.qsr_top.specs.declared.statuses.Status.{Status}
 use Rattle.qsr_top.specs.declared.statuses.Status.TheVariants.{Done, No, Usage, ReadFault, WriteFault, Memory, Budget, NotAccepted, TooLong}
 
@@ -19,6 +19,30 @@ IsSolveEnd Usage = ⊥
 IsSolveEnd (NotAccepted number place) = ⊥
 IsSolveEnd status = Unit {0}
 
+-- the ends of the commands that check a certificate
+abbrev pub IsCheckEnd : Status → Type 0
+IsCheckEnd No = ⊥
+IsCheckEnd Usage = ⊥
+IsCheckEnd Budget = ⊥
+IsCheckEnd status = Unit {0}
+
+-- the ends of the command that relates polygons
+abbrev pub IsRelateEnd : Status → Type 0
+IsRelateEnd No = ⊥
+IsRelateEnd Usage = ⊥
+IsRelateEnd Budget = ⊥
+IsRelateEnd (NotAccepted number place) = ⊥
+IsRelateEnd status = Unit {0}
+
+-- the ends of the demonstration
+abbrev pub IsDemoEnd : Status → Type 0
+IsDemoEnd Done = Unit {0}
+IsDemoEnd No = Unit {0}
+IsDemoEnd Budget = Unit {0}
+IsDemoEnd WriteFault = Unit {0}
+IsDemoEnd Memory = Unit {0}
+IsDemoEnd status = ⊥
+
 -- the ends where the words ask for nothing
 abbrev pub IsUsageEnd : Status → Type 0
 IsUsageEnd Usage = Unit {0}
@@ -31,6 +55,10 @@ abbrev pub MayEnd : Option Asked → Status → Type 0
 MayEnd None status = IsUsageEnd status
 MayEnd (Some (close asked)) status = IsCloseEnd status
 MayEnd (Some (solve asked)) status = IsSolveEnd status
+MayEnd (Some (check asked)) status = IsCheckEnd status
+MayEnd (Some (trace asked)) status = IsCheckEnd status
+MayEnd (Some (relate asked)) status = IsRelateEnd status
+MayEnd (Some (demo asked)) status = IsDemoEnd status
 
 -- an input was too long; out of memory may come in its place
 abbrev pub IsTooLongOrMemory : Status → Type 0
@@ -38,11 +66,12 @@ IsTooLongOrMemory TooLong = Unit {0}
 IsTooLongOrMemory Memory = Unit {0}
 IsTooLongOrMemory status = ⊥
 
--- a command that reads the source was answered
+-- a command was answered by what it makes of its input
 abbrev pub IsAnswered : Status → Type 0
 IsAnswered Done = Unit {0}
 IsAnswered No = Unit {0}
 IsAnswered Budget = Unit {0}
+IsAnswered (NotAccepted number place) = Unit {0}
 IsAnswered status = ⊥
 
 -- the end of a run whose input was not read to its end

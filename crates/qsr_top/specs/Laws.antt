@@ -1,8 +1,8 @@
 -- What holds of all outputs.
-use Rattle.std.specs.Prelude.{◌≡◌, ℕ, ⊤, List, All, Option, IsSomeAnd}
+use Rattle.std.specs.Prelude.{◌≡◌, ℕ, ⊤, List, All, Option, None, Some, IsSomeAnd}
 use Rattle.qsr_outside.specs.Documents.{Documents, document}
-use Rattle.qsr_words.specs.Asked.{Asked, asked_by}
-use Rattle.qsr_words.specs.Requests.{FitsClass}
+use Rattle.qsr_words.specs.Asked.{Asked, close, solve, check, trace, relate, demo, asked_by}
+use Rattle.qsr_words.specs.Requests.{FitsCalculus}
 use Rattle.qsr_top.specs.Told.{named_documents}
 use Rattle.qsr_top.specs.Output.{Output}
 use Rattle.qsr_top.specs.declared.statuses.Status.{Status}
@@ -16,17 +16,27 @@ OutputIsOne = (asked : Option Asked) (documents : Documents) (bytes t u : List �
 abbrev pub HasNamedDocuments : Option Asked → Documents → Type 0
 HasNamedDocuments asked documents = All (λ name. IsSomeAnd (document documents name) (λ _. ⊤)) (named_documents asked)
 
+-- no polygons are asked for
+abbrev pub HasNoPolygons : Option Asked → Type 0
+HasNoPolygons None = ⊤
+HasNoPolygons (Some (close asked)) = ⊤
+HasNoPolygons (Some (solve asked)) = asked.polygons ≡ None
+HasNoPolygons (Some (check asked)) = asked.polygons ≡ None
+HasNoPolygons (Some (trace asked)) = asked.polygons ≡ None
+HasNoPolygons (Some (relate asked)) = ⊥
+HasNoPolygons (Some (demo asked)) = ⊥
+
 -- a text and a status that are permitted
 pub record HasOutput (asked : Option Asked) (documents : Documents) (bytes : List ℕ) : Type 0 where
   pub text : List ℕ
   pub status : Status
   pub output : Output asked documents bytes text status
 
--- and one text and one status at least, where the named documents are there and the class fits
+-- and one text and one status at least, where the named documents are there, class and polygons fit, and no polygons are asked for
 abbrev pub OutputIsThere : Type 0
 OutputIsThere = (asked : Option Asked) (documents : Documents) (bytes : List ℕ) →
-    FitsClass asked → HasNamedDocuments asked documents → HasOutput asked documents bytes
+    FitsCalculus asked → HasNoPolygons asked → HasNamedDocuments asked documents → HasOutput asked documents bytes
 
--- which it does in all that words ask for
-abbrev pub WordsFitClass : Type 0
-WordsFitClass = (words : List (List ℕ)) → FitsClass (asked_by words)
+-- which they do in all that words ask for
+abbrev pub WordsFit : Type 0
+WordsFit = (words : List (List ℕ)) → FitsCalculus (asked_by words)

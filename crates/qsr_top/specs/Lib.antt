@@ -3,11 +3,17 @@ pub mod Stops
 pub mod Parts
 pub mod Numbers
 pub mod Inputs
+pub mod Texts
+pub mod Certificates
+pub mod Verdicts
+pub mod Relations
+pub mod Demonstrations
 pub mod Output
 pub mod Told
 pub mod Ends
 pub mod Spoken
 pub mod SinkAfter
+pub mod Answers
 pub mod Laws
 pub use Rattle.network_words.specs.Network
 pub use Rattle.network_words.specs.Closure

@@ -8,9 +8,24 @@ use Rattle.tract_classes.specs.declared.fault.ClassFault.{ClassFault}
 use Rattle.tract_classes.specs.declared.fault.ClassFault.TheVariants as class
 use Rattle.network_file.specs.declared.fault.FileFault.{FileFault}
 use Rattle.network_file.specs.declared.fault.FileFault.TheVariants as file
+use Rattle.cert_file.specs.declared.fault.CertFault.{CertFault}
+use Rattle.cert_file.specs.declared.fault.CertFault.TheVariants as cert
+use Rattle.poly_exact.specs.declared.rings.RingFault.{RingFault}
+use Rattle.poly_exact.specs.declared.rings.RingFault.TheVariants as ring
+use Rattle.geo_facts.specs.declared.fault.GeoFault.{GeoFault}
+use Rattle.geo_facts.specs.declared.fault.GeoFault.TheVariants as geo
+use Rattle.geo_facts.specs.declared.fault.FactFault.{FactFault}
+use Rattle.geo_facts.specs.declared.fault.FactFault.TheVariants as fact
+use Rattle.scenario.specs.declared.checking.At.{At}
+use Rattle.scenario.specs.declared.checking.At.TheVariants as scenario
+use Rattle.refutation.specs.declared.fault.TreeFault.{TreeFault}
+use Rattle.refutation.specs.declared.fault.TreeFault.TheVariants as tree
 use Rattle.qsr_top.specs.declared.statuses.Place.{Place}
 
--- places of one, two and three numbers
+-- places of no number, and of one, two and three
+abbrev pub no_place : Place
+no_place = record { count = 0; a = 0; b = 0; c = 0 }
+
 abbrev pub place_of_one : ℕ → Place
 place_of_one a = record { count = 1; a = a; b = 0; c = 0 }
 
@@ -62,3 +77,56 @@ file_refusal (file.Syntax line) = Some (18, place_of_one line)
 file_refusal (file.Unknown line) = Some (19, place_of_one line)
 file_refusal (file.NoEnd lines) = Some (20, place_of_one lines)
 file_refusal file.Memory = None
+
+-- of a certificate: the bytes as a whole, or a key and an entry
+abbrev pub cert_refusal : CertFault → Option (ℕ × Place)
+cert_refusal cert.NotJson = Some (31, no_place)
+cert_refusal (cert.Field field index) = Some (32, place_of_two field index)
+cert_refusal cert.Memory = None
+
+-- of the ring of a line: the line, and a point or two edges
+abbrev pub ring_refusal : ℕ → RingFault → Option (ℕ × Place)
+ring_refusal line ring.Few = Some (33, place_of_one line)
+ring_refusal line (ring.Coordinate k) = Some (34, place_of_two line k)
+ring_refusal line (ring.NotSimple e f) = Some (35, place_of_three line e f)
+ring_refusal line ring.ManyVertices = Some (36, place_of_one line)
+ring_refusal line ring.Memory = None
+
+-- of a pattern: its first wrong byte
+abbrev pub pattern_refusal : ℕ → ℕ × Place
+pattern_refusal byte = (37, place_of_one byte)
+
+-- of a polygon file: a line
+abbrev pub geo_refusal : GeoFault → Option (ℕ × Place)
+geo_refusal (geo.Syntax line) = Some (38, place_of_one line)
+geo_refusal (geo.Hole line) = Some (39, place_of_one line)
+geo_refusal (geo.Open line) = Some (40, place_of_one line)
+geo_refusal (geo.NameTwice line) = Some (41, place_of_one line)
+geo_refusal (geo.ManyPolygons line) = Some (42, place_of_one line)
+geo_refusal (geo.Ring line fault) = ring_refusal line fault
+geo_refusal geo.Memory = None
+
+-- of polygons whose names are nodes': a polygon
+abbrev pub fact_refusal : FactFault → Option (ℕ × Place)
+fact_refusal (fact.NoNode at) = Some (43, place_of_one at)
+fact_refusal fact.Memory = None
+
+-- ---- why a certificate isn't accepted
+
+-- it is of another network: of so many nodes over these base relations
+abbrev pub other_network : ℕ × Place
+other_network = (27, no_place)
+
+-- its list of base relations is no scenario: an edge, or three nodes
+abbrev pub scenario_refusal : At → ℕ × Place
+scenario_refusal (scenario.Outside i j) = (25, place_of_two i j)
+scenario_refusal (scenario.Triple i j k) = (26, place_of_three i j k)
+scenario_refusal scenario.Shape = (27, no_place)
+
+-- its tree doesn't refute: a node, or a step of a node
+abbrev pub tree_refusal : TreeFault → Option (ℕ × Place)
+tree_refusal (tree.Uncovered node) = Some (28, place_of_one node)
+tree_refusal (tree.NotEmpty node) = Some (29, place_of_one node)
+tree_refusal (tree.BadTree node) = Some (30, place_of_one node)
+tree_refusal (tree.BadStep node step) = Some (51, place_of_two node step)
+tree_refusal tree.Memory = None

@@ -1,12 +1,14 @@
 -- What a run leaves in its sink, by its status.
-use Rattle.std.specs.Prelude.{◌≡◌, ℕ, List, Option, None, Some}
+use Rattle.std.specs.Prelude.{◌≡◌, ℕ, List, Option}
 use Rattle.std.specs.Io.KnownBytes.{Appends, Keeps}
 use Rattle.qsr_outside.specs.Documents.{Documents}
 use Rattle.qsr_outside.specs.Writing.{AppendsPart}
-use Rattle.qsr_words.specs.Asked.{Asked, close, solve}
-use Rattle.qsr_top.specs.Output.{Output, UsageOutput, refusal_text, usage_text}
+use Rattle.qsr_words.specs.Asked.{Asked}
+use Rattle.qsr_top.specs.Ends.{MayEnd}
+use Rattle.qsr_top.specs.Output.{Output}
+use Rattle.qsr_top.specs.Texts.{refusal_text, usage_text, not_accepted_text}
 use Rattle.qsr_top.specs.declared.statuses.Status.{Status}
-use Rattle.qsr_top.specs.declared.statuses.Status.TheVariants.{Done, No, Usage, Refused, ReadFault, WriteFault, Memory, Budget, TooLong}
+use Rattle.qsr_top.specs.declared.statuses.Status.TheVariants.{Done, No, Usage, Refused, ReadFault, WriteFault, Memory, Budget, NotAccepted, TooLong}
 
 -- the bytes held, where told, grew by a whole text that is permitted with this status
 pub record WritesOutput (asked : Option Asked) (documents : Documents) (bytes : List ℕ) (old new : Option (List ℕ)) (status : Status) : Type 0 where
@@ -33,41 +35,23 @@ LeavesInSink asked documents bytes old new status = WritesOutput asked documents
 abbrev pub LeavesByStatus : Option (List ℕ) → Option (List ℕ) → Status → Type 0
 LeavesByStatus old new Usage = Appends old new usage_text
 LeavesByStatus old new (Refused number place) = Appends old new (refusal_text number place)
+LeavesByStatus old new (NotAccepted number place) = Appends old new (not_accepted_text number place)
 LeavesByStatus old new ReadFault = Keeps old new
 LeavesByStatus old new Memory = Keeps old new
 LeavesByStatus old new TooLong = Keeps old new
 LeavesByStatus old new status = Unit {0}
 
--- the status is one of an answer of closing, and the text is the one that belongs to it, where one does
-abbrev pub IsCloseAnswer : List ℕ → Status → Type 0
-IsCloseAnswer text Done = Unit {0}
-IsCloseAnswer text No = Unit {0}
-IsCloseAnswer text (Refused number place) = text ≡ refusal_text number place
-IsCloseAnswer text status = ⊥
-
--- the same, of an answer of a search
-abbrev pub IsSolveAnswer : List ℕ → Status → Type 0
-IsSolveAnswer text Done = Unit {0}
-IsSolveAnswer text No = Unit {0}
-IsSolveAnswer text Budget = Unit {0}
-IsSolveAnswer text (Refused number place) = text ≡ refusal_text number place
-IsSolveAnswer text status = ⊥
+-- an answer's text is the one that belongs to its status, where one does
+abbrev pub IsTextOf : List ℕ → Status → Type 0
+IsTextOf text Done = Unit {0}
+IsTextOf text No = Unit {0}
+IsTextOf text Budget = Unit {0}
+IsTextOf text Usage = text ≡ usage_text
+IsTextOf text (Refused number place) = text ≡ refusal_text number place
+IsTextOf text (NotAccepted number place) = text ≡ not_accepted_text number place
+IsTextOf text status = ⊥
 
 -- an answer that is written whole, unless the sink fails
-abbrev pub IsWritten : Option Asked → List ℕ → Status → Type 0
-IsWritten None = UsageOutput
-IsWritten (Some (close asked)) = IsCloseAnswer
-IsWritten (Some (solve asked)) = IsSolveAnswer
-
--- a verdict on a network
-abbrev pub IsVerdictStatus : Status → Type 0
-IsVerdictStatus Done = Unit {0}
-IsVerdictStatus No = Unit {0}
-IsVerdictStatus status = ⊥
-
--- or the end of a search at its budget
-abbrev pub IsSearchStatus : Status → Type 0
-IsSearchStatus Done = Unit {0}
-IsSearchStatus No = Unit {0}
-IsSearchStatus Budget = Unit {0}
-IsSearchStatus status = ⊥
+pub record IsWritten (asked : Option Asked) (text : List ℕ) (status : Status) : Type 0 where
+  pub may_end : MayEnd asked status
+  pub is_text : IsTextOf text status

@@ -3,7 +3,7 @@ use Rattle.std.specs.Prelude.{◌≡◌, Result, Ok, Err, MatchResult}
 use Rattle.std.specs.String.{string_bytes}
 use Rattle.qsr_outside.specs.declared.reading.ReadStop.{ReadStop}
 use Rattle.qsr_outside.specs.declared.reading.ReadStop.TheVariants as read
-use Rattle.qsr_top.specs.Output.{refusal_text}
+use Rattle.qsr_top.specs.Texts.{refusal_text}
 use Rattle.qsr_top.specs.declared.answers.Answer.{Answer}
 use Rattle.qsr_top.specs.declared.statuses.Status.TheVariants.{Refused}
 use Rattle.qsr_top.specs.declared.stops.Stop.{Stop}

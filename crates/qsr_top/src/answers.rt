@@ -1,6 +1,6 @@
 ghost use Rattle.std.specs.Prelude.{◌≡◌, IfOk};
 ghost use Rattle.std.specs.String.{string_bytes};
-ghost use Rattle.qsr_top.specs.Output.{place_text, refusal_text, usage_text};
+ghost use Rattle.qsr_top.specs.Texts.{place_text, refusal_text, usage_text, not_accepted_text, accepted_text};
 
 use crate::statuses::{Place, Status};
 use std::alloc::{AllocError, Global};
@@ -51,5 +51,31 @@ pub(crate) fn refused(alloc: Global, number: u32, place: Place) -> Result<Answer
     Ok(Answer {
         text,
         status: Status::Refused { number, place },
+    })
+}
+
+/// The answer where a certificate is accepted.
+pub(crate) fn accepted(alloc: Global) -> Result<Answer, AllocError>
+    ensures status { IfOk result (λ answer. answer.status ≡ Status.Done) }
+    ensures text { IfOk result (λ answer. string_bytes answer.text ≡ accepted_text) }
+{
+    let text = String::from_str(alloc, "accepted\n")?;
+    Ok(Answer {
+        text,
+        status: Status::Done,
+    })
+}
+
+/// The answer where a certificate isn't accepted.
+pub(crate) fn not_accepted(alloc: Global, number: u32, place: Place) -> Result<Answer, AllocError>
+    ensures status { IfOk result (λ answer. answer.status ≡ Status.NotAccepted number place) }
+    ensures text { IfOk result (λ answer.
+        string_bytes answer.text ≡ not_accepted_text number place) }
+{
+    let place_text = place_text(alloc, place)?;
+    let text = format!(in alloc; "not accepted {number}{place_text}\n")?;
+    Ok(Answer {
+        text,
+        status: Status::NotAccepted { number, place },
     })
 }

@@ -1,20 +1,21 @@
 //! The calculus of a search with the class that guides it: one that is built in, or that of a class file.
-ghost use Rattle.std.specs.Prelude.{◌≡◌, ◌⊎◌, ◌<◌, ◌≤◌, ⊤, [], ◌++◌, true, length, option_map, IfSome, IfOk, IfErr, Ok};
+ghost use Rattle.std.specs.Prelude.{◌≡◌, ◌≤◌, ◌∷◌, [], ◌++◌, true, length, codes, option_map, IfOk, IfErr, Ok};
+ghost use Rattle.std.specs.Str.{bytes_eq};
+ghost use Rattle.qsr_lex.specs.declared.TheConstants.{MAX_TEXT};
 ghost use Rattle.calculus_builtin.specs.Rcc8.{rcc8_calculus};
-ghost use Rattle.qsr_outside.specs.Counts.{Rose, RoseAbove};
-ghost use Rattle.qsr_outside.specs.Documents.{HasDocument};
 ghost use Rattle.qsr_words.specs.Asked.{class_fits, is_rcc8_class};
 ghost use Rattle.qsr_top.specs.Stops.{HasCause, IsRefusalOrMemory};
 ghost use Rattle.qsr_top.specs.Parts.{Then};
 ghost use Rattle.qsr_top.specs.Inputs.{CalculusAndClass, ClassFileOf, ClassOf, DocumentOf};
 ghost use Rattle.qsr_top.specs.Inputs.{CanGuide, builtin_class};
-ghost use Rattle.qsr_top.specs.Told.{told_where, named_by_calculus, named_by_class, AreThere};
+ghost use Rattle.qsr_top.specs.Told.{named_by_calculus, named_by_class};
+ghost use Rattle.qsr_top.specs.Answers.{Fetches};
 
-use crate::inputs::{calculus, stop_of_reading};
+use crate::inputs::calculus;
 use crate::stops::{Stop, class_stop};
+use crate::texts::document;
 use calculus_table::{Calculus, Compose, Memory};
-use qsr_lex::MAX_TEXT;
-use qsr_outside::{Shelf, fetch};
+use qsr_outside::Shelf;
 use std::alloc::Global;
 use std::marker::Model;
 use tract_classes::{Class, c8, h8, none, q8};
@@ -42,27 +43,12 @@ pub(crate) fn calculus_and_class<F: Shelf>(
     class_word: &str,
 ) -> Result<GuidedCalculus, Stop>
     requires { class_fits word.now class_word.now ≡ true }
-    ensures value { IfOk result (λ guided. IfSome
-        (told_where (named_by_calculus word.now ++ named_by_class class_word.now) (F.documents shelf.old))
-        (λ documents. CalculusAndClass documents word.now class_word.now (Ok guided))) }
-    ensures cause { IfErr result (λ stop. IfSome
-        (told_where (named_by_calculus word.now ++ named_by_class class_word.now) (F.documents shelf.old))
-        (λ documents. HasCause (CalculusAndClass documents word.now class_word.now) stop)) }
+    ensures guided { Fetches F.documents F.faults F.given F.absent_openings
+        (named_by_calculus word.now ++ named_by_class class_word.now)
+        (λ documents. CalculusAndClass documents word.now class_word.now) shelf.old shelf.new result }
     ensures guides { IfOk result CanGuide }
-
-    ensures read_fault { result ≡ Err Stop.ReadFault
-        → Rose (F.faults shelf.old) (F.faults shelf.new) }
-    ensures too_long { result ≡ Err Stop.TooLong
-        → RoseAbove (F.given shelf.old) (F.given shelf.new) MAX_TEXT }
-    ensures faults_are_told { (result ≡ Err Stop.ReadFault)
-        ⊎ (F.faults shelf.new ≡ F.faults shelf.old) }
-    ensures faults_never_fall { F.faults shelf.old ≤ F.faults shelf.new }
-    ensures documents_stay { F.documents shelf.new ≡ F.documents shelf.old }
-    ensures absent_openings_stay { AreThere
-        (named_by_calculus word.now ++ named_by_class class_word.now) (F.documents shelf.old)
-        → F.absent_openings shelf.new ≡ F.absent_openings shelf.old }
-    ensures builtin_stays { named_by_calculus word.now ++ named_by_class class_word.now ≡ []
-        → shelf.new ≡ shelf.old }
+    ensures rcc8 { IfOk result (λ guided.
+        bytes_eq word.now (codes "rcc8") ≡ true → guided.calculus ≡ rcc8_calculus) }
 {
     let calculus = calculus(alloc, shelf, word)?;
     let class = class(alloc, shelf, class_word, &calculus)?;
@@ -72,25 +58,9 @@ pub(crate) fn calculus_and_class<F: Shelf>(
 /// The class of a word over a calculus: one that is built in, or that of the class file of this name.
 fn class<F: Shelf>(alloc: Global, shelf: &mut F, word: &str, c: &Calculus) -> Result<Class, Stop>
     requires { is_rcc8_class word.now ≡ true → c.now ≡ rcc8_calculus }
-    ensures value { IfOk result (λ class.
-        IfSome (told_where (named_by_class word.now) (F.documents shelf.old))
-        (λ documents. ClassOf documents word.now c.now (Ok class))) }
-    ensures cause { IfErr result (λ stop.
-        IfSome (told_where (named_by_class word.now) (F.documents shelf.old))
-        (λ documents. HasCause (ClassOf documents word.now c.now) stop)) }
+    ensures class { Fetches F.documents F.faults F.given F.absent_openings (named_by_class word.now)
+        (λ documents. ClassOf documents word.now c.now) shelf.old shelf.new result }
     ensures guides { IfOk result (λ class. CanGuide (record { calculus = c.now; class = class })) }
-
-    ensures read_fault { result ≡ Err Stop.ReadFault
-        → Rose (F.faults shelf.old) (F.faults shelf.new) }
-    ensures too_long { result ≡ Err Stop.TooLong
-        → RoseAbove (F.given shelf.old) (F.given shelf.new) MAX_TEXT }
-    ensures faults_are_told { (result ≡ Err Stop.ReadFault)
-        ⊎ (F.faults shelf.new ≡ F.faults shelf.old) }
-    ensures faults_never_fall { F.faults shelf.old ≤ F.faults shelf.new }
-    ensures documents_stay { F.documents shelf.new ≡ F.documents shelf.old }
-    ensures absent_openings_stay { AreThere (named_by_class word.now) (F.documents shelf.old)
-        → F.absent_openings shelf.new ≡ F.absent_openings shelf.old }
-    ensures builtin_stays { named_by_class word.now ≡ [] → shelf.new ≡ shelf.old }
 {
     match builtin_class(alloc, word, c.size()) {
         Ok(Some(class)) => Ok(class),
@@ -127,27 +97,12 @@ fn class_file<F: Shelf>(
     name: &str,
     c: &Calculus,
 ) -> Result<Class, Stop>
-    ensures value { IfOk result (λ class. IfSome (F.documents shelf.old)
-        (λ documents. Then (DocumentOf documents name.now) (ClassFileOf c.now) (Ok class))) }
-    ensures cause { IfErr result (λ stop. IfSome (F.documents shelf.old)
-        (λ documents. HasCause (Then (DocumentOf documents name.now) (ClassFileOf c.now)) stop)) }
+    ensures class { Fetches F.documents F.faults F.given F.absent_openings (name.now ∷ [])
+        (λ documents. Then (DocumentOf documents name.now) (ClassFileOf c.now)) shelf.old shelf.new result }
     ensures guides { IfOk result (λ class. CanGuide (record { calculus = c.now; class = class })) }
-
-    ensures read_fault { result ≡ Err Stop.ReadFault
-        → Rose (F.faults shelf.old) (F.faults shelf.new) }
-    ensures too_long { result ≡ Err Stop.TooLong
-        → RoseAbove (F.given shelf.old) (F.given shelf.new) MAX_TEXT }
-    ensures faults_are_told { (result ≡ Err Stop.ReadFault)
-        ⊎ (F.faults shelf.new ≡ F.faults shelf.old) }
-    ensures faults_never_fall { F.faults shelf.old ≤ F.faults shelf.new }
-    ensures documents_stay { F.documents shelf.new ≡ F.documents shelf.old }
-    ensures absent_openings_stay { HasDocument (F.documents shelf.old) name.now (λ _. ⊤)
-        → F.absent_openings shelf.new ≡ F.absent_openings shelf.old }
 {
-    match fetch(alloc, shelf, name, MAX_TEXT) {
-        Ok(bytes) => class_of(alloc, &bytes, c),
-        Err(stop) => Err(stop_of_reading(stop)),
-    }
+    let text = document(alloc, shelf, name)?;
+    class_of(alloc, &text.bytes, c)
 }
 
 /// The class of a class file over a calculus.

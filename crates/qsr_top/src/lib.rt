@@ -2,16 +2,24 @@
 #![tactic(auto)]
 
 mod answers;
+mod checking;
+mod claims;
 mod classes;
 mod closing;
+mod demonstrating;
 mod inputs;
 mod laws;
+mod placing;
+mod polygons;
+mod relating;
 mod running;
 mod solving;
 mod statuses;
 mod stops;
 #[cfg(test)]
 mod tests;
+mod texts;
+mod tracing;
 
 pub use laws::output_is_one;
 pub use running::run;

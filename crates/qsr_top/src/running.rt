@@ -4,20 +4,25 @@ ghost use Rattle.std.specs.Prelude.{◌≡◌, ◌⊎◌, ◌+◌, ◌<◌, ◌�
 ghost use Rattle.std.specs.Io.KnownBytes.{Appends, IsAtEnd};
 ghost use Rattle.std.specs.String.{string_bytes};
 ghost use Rattle.qsr_outside.specs.Counts.{Rose, RoseAbove};
-ghost use Rattle.qsr_outside.specs.Reading.{IsTooLongOrMemory as IsTooLongStop};
 ghost use Rattle.qsr_outside.specs.Writing.{AppendsPart};
 ghost use Rattle.qsr_words.specs.Asked.{asked_by};
-ghost use Rattle.qsr_top.specs.Output.{Output, usage_text};
+ghost use Rattle.qsr_words.specs.Requests.{asked_of, IsWithinLimits};
+ghost use Rattle.qsr_top.specs.Texts.{usage_text};
 ghost use Rattle.qsr_top.specs.Ends.{MayEnd, IsAnswered, IsTooLongOrMemory, end_of_stop};
 ghost use Rattle.qsr_top.specs.Spoken.{IsSpoken};
-ghost use Rattle.qsr_top.specs.SinkAfter.{LeavesInSink, LeavesByStatus, IsWritten};
-ghost use Rattle.qsr_top.specs.Told.{WhereTold, SourceWaits, AbsentStays, named_documents};
+ghost use Rattle.qsr_top.specs.SinkAfter.{LeavesInSink, LeavesByStatus};
+ghost use Rattle.qsr_top.specs.Told.{WhereTold, SourceWaits, AbsentStays, AfterSource, named_documents};
+ghost use Rattle.qsr_top.specs.Answers.{AnswersWords};
 
 use crate::answers::{Answer, refused, usage};
+use crate::checking::check_answer;
 use crate::closing::close_answer;
+use crate::demonstrating::demo_answer;
+use crate::relating::relate_answer;
 use crate::solving::solve_answer;
 use crate::statuses::Status;
 use crate::stops::Stop;
+use crate::tracing::trace_answer;
 use calculus_table::Memory;
 use qsr_lex::MAX_TEXT;
 use qsr_outside::{Gate, ReadStop, Shelf, Sink, Source, WriteStop, write_all};
@@ -67,7 +72,8 @@ pub fn run<R: Threads + Sync, F: Shelf, S: Source, W: Sink, G: Gate + Sync>(
         (F.documents shelf.old) (source.new ≡ source.old) }
     ensures shelf_stays { named_documents (asked_by (map string_bytes words.now)) ≡ []
         → shelf.new ≡ shelf.old }
-    ensures ends { IsAnswered result → IsAtEnd (S.left source.new) }
+    ensures ends { IsAnswered result
+        → AfterSource (asked_by (map string_bytes words.now)) (IsAtEnd (S.left source.new)) }
     ensures documents_stay { F.documents shelf.new ≡ F.documents shelf.old }
     ensures absent_openings_stay { AbsentStays (asked_by (map string_bytes words.now))
         (F.documents shelf.old) (F.absent_openings shelf.old) (F.absent_openings shelf.new) }
@@ -90,55 +96,40 @@ fn answer<R: Threads + Sync, F: Shelf, S: Source, G: Gate + Sync>(
     source: &mut S,
     gate: &G,
 ) -> Result<Answer, ReadStop>
-    ensures output { IfOk result (λ answer. WhereTold (asked_by (map string_bytes words.now))
-        (F.documents shelf.old) (S.left source.old) (λ documents bytes.
-        Output (asked_by (map string_bytes words.now)) documents bytes
-        (string_bytes answer.text) answer.status)) }
-    ensures status { IfOk result (λ answer. IsWritten (asked_by (map string_bytes words.now))
-        (string_bytes answer.text) answer.status) }
-    ensures ends { IfOk result (λ answer. IsAnswered answer.status → IsAtEnd (S.left source.new)) }
-    ensures usage_stop { asked_by (map string_bytes words.now) ≡ None
-        → IfErr result (λ stop. stop ≡ ReadStop.Memory) }
-    ensures too_long_output { result ≡ Err ReadStop.TooLong
-        → WhereTold (asked_by (map string_bytes words.now)) (F.documents shelf.old)
-        (S.left source.old) (λ documents bytes.
-        Output (asked_by (map string_bytes words.now)) documents bytes [] Status.TooLong) }
-
-    ensures read_fault { result ≡ Err ReadStop.ReadFault
-        → Rose (F.faults shelf.old) (F.faults shelf.new)
-        ⊎ Rose (S.faults source.old) (S.faults source.new) }
-    ensures too_long { result ≡ Err ReadStop.TooLong
-        → RoseAbove (F.given shelf.old) (F.given shelf.new) MAX_TEXT
-        ⊎ RoseAbove (S.given source.old) (S.given source.new) MAX_TEXT }
-    ensures above { S.given source.old + MAX_TEXT < S.given source.new → IsTooLongStop result }
-    ensures faults_are_told { (result ≡ Err ReadStop.ReadFault)
-        ⊎ ((F.faults shelf.new ≡ F.faults shelf.old) × (S.faults source.new ≡ S.faults source.old)) }
-
-    ensures source_waits { SourceWaits (asked_by (map string_bytes words.now))
-        (F.documents shelf.old) (source.new ≡ source.old) }
-    ensures shelf_stays { named_documents (asked_by (map string_bytes words.now)) ≡ []
-        → shelf.new ≡ shelf.old }
-    ensures documents_stay { F.documents shelf.new ≡ F.documents shelf.old }
-    ensures absent_openings_stay { AbsentStays (asked_by (map string_bytes words.now))
-        (F.documents shelf.old) (F.absent_openings shelf.old) (F.absent_openings shelf.new) }
-    ensures shelf_faults { F.faults shelf.old ≤ F.faults shelf.new }
-    ensures source_faults { S.faults source.old ≤ S.faults source.new }
+    ensures { AnswersWords F.documents F.faults F.given F.absent_openings S.left S.faults S.given
+        (asked_by (map string_bytes words.now)) shelf.old shelf.new source.old source.new result }
 {
     match read(alloc, words) {
-        Ok(Request::Close(request)) => {
-            spoken(
-                alloc,
-                close_answer(rt, alloc, &request, shelf, source, gate),
-            )
-        }
-        Ok(Request::Solve(request)) => {
-            spoken(
-                alloc,
-                solve_answer(rt, alloc, &request, shelf, source, gate),
-            )
-        }
-        Ok(Request::Usage) => usage(alloc).map_err(|_| ReadStop::Memory),
+        Ok(request) => request_answer(rt, alloc, &request, shelf, source, gate),
         Err(Memory) => Err(ReadStop::Memory),
+    }
+}
+
+/// What is to be written for a request, or why nothing is.
+fn request_answer<R: Threads + Sync, F: Shelf, S: Source, G: Gate + Sync>(
+    rt: &R,
+    alloc: Global,
+    request: &Request,
+    shelf: &mut F,
+    source: &mut S,
+    gate: &G,
+) -> Result<Answer, ReadStop>
+    requires { IsWithinLimits request.now }
+    ensures { AnswersWords F.documents F.faults F.given F.absent_openings S.left S.faults S.given
+        (asked_of request.now) shelf.old shelf.new source.old source.new result }
+{
+    match request {
+        Request::Close(close) => {
+            spoken(alloc, close_answer(rt, alloc, close, shelf, source, gate))
+        }
+        Request::Solve(solve) => {
+            spoken(alloc, solve_answer(rt, alloc, solve, shelf, source, gate))
+        }
+        Request::Check(check) => spoken(alloc, check_answer(rt, alloc, check, shelf, source)),
+        Request::Trace(check) => spoken(alloc, trace_answer(rt, alloc, check, shelf, source)),
+        Request::Relate(relate) => spoken(alloc, relate_answer(alloc, relate, shelf)),
+        Request::Demo(demo) => spoken(alloc, demo_answer(rt, alloc, demo, gate)),
+        Request::Usage => usage(alloc).map_err(|_| ReadStop::Memory),
     }
 }
 

@@ -1,41 +1,57 @@
 //! The command `solve`: the network of the source is closed, and searched for a scenario. The verdict is written.
-ghost use Rattle.std.specs.Prelude.{◌≡◌, ◌⊎◌, ℕ, ◌+◌, ◌^◌, ◌<◌, ◌≤◌, [], ◌++◌, length, slice_index, codes};
-ghost use Rattle.std.specs.Prelude.{Some, IfOk, IfErr, OnOk};
+ghost use Rattle.std.specs.Prelude.{◌≡◌, ◌⊎◌, ℕ, ◌^◌, ◌<◌, ◌++◌, [], length, map, slice_index, codes, option_map, Some, IfOk};
 ghost use Rattle.std.specs.String.{string_bytes};
-ghost use Rattle.std.specs.Io.KnownBytes.{IsAtEnd};
 ghost use Rattle.network_words.specs.Edge.{edge_count};
 ghost use Rattle.network_words.specs.Network.{IsNetwork};
 ghost use Rattle.network_words.specs.Scenario.{IsScenario, as_network};
 ghost use Rattle.network_file.specs.NetworkText.{network_text};
+ghost use Rattle.cert_file.specs.Written.{certificate_text};
 ghost use Rattle.split_search.specs.Verdicts.{nodes_of};
-ghost use Rattle.qsr_outside.specs.Counts.{Rose, RoseAbove};
 ghost use Rattle.qsr_words.specs.Asked.{solve};
 ghost use Rattle.qsr_words.specs.Requests.{solve_of, IsSearch};
-ghost use Rattle.qsr_top.specs.Stops.{HasCause, IsTooLongStop};
-ghost use Rattle.qsr_top.specs.Inputs.{CanGuide};
-ghost use Rattle.qsr_top.specs.Output.{HasScenario, SolvesNetwork, SolveInput, Works};
-ghost use Rattle.qsr_top.specs.Output.{verdict_line, verdict_text, verdict_status};
-ghost use Rattle.qsr_top.specs.SinkAfter.{IsSearchStatus};
-ghost use Rattle.qsr_top.specs.Told.{WhereTold, SourceWaits, AbsentStays, named_documents};
+ghost use Rattle.qsr_top.specs.Inputs.{CanGuide, IsOnRcc8};
+ghost use Rattle.qsr_top.specs.Output.{SolvesNetwork, DocumentsGive};
+ghost use Rattle.qsr_top.specs.Texts.{verdict_line};
+ghost use Rattle.qsr_top.specs.Certificates.{certificate_of};
+ghost use Rattle.qsr_top.specs.Verdicts.{HasScenario, verdict_word, verdict_status, verdict_text, answer_text};
+ghost use Rattle.qsr_top.specs.Told.{documents_of};
+ghost use Rattle.qsr_top.specs.Answers.{Fetches, Answers};
 
 use crate::answers::Answer;
 use crate::classes::{GuidedCalculus, calculus_and_class};
-use crate::inputs::network;
+use crate::placing::placed_network;
+use crate::polygons::{Polygons, polygons_asked};
 use crate::statuses::Status;
 use crate::stops::Stop;
 use calculus_table::{Calculus, Memory, Rel, lawful};
+use cert_file::{Cert, Claim};
 use closure_workers::close_parallel;
 use compose_fast::Fast;
 use network_file::text;
 use network_words::Net;
-use qsr_lex::MAX_TEXT;
 use qsr_outside::{Gate, Shelf, Source};
 use qsr_words::Solve;
 use refutation::Tree;
 use scenario::Scenario;
 use split_search::{Verdict, solve};
 use std::alloc::{AllocError, Global};
+use std::marker::Model;
 use std::thread::Threads;
+
+/// What the documents give to a search: a calculus with a class that guides, and polygons.
+#[derive(Drop)]
+pub(crate) struct Searched {
+    guided: GuidedCalculus,
+    polygons: Polygons,
+}
+
+impl Model for Searched {
+    ghost use Rattle.qsr_top.specs.Inputs.{Searched};
+
+    ghost Value = { Searched };
+
+    ghost view = { λ s. record { guided = s.guided; polygons = s.polygons } };
+}
 
 /// What the request writes, or why nothing.
 pub(crate) fn solve_answer<R: Threads + Sync, F: Shelf, S: Source, G: Gate + Sync>(
@@ -47,36 +63,27 @@ pub(crate) fn solve_answer<R: Threads + Sync, F: Shelf, S: Source, G: Gate + Syn
     gate: &G,
 ) -> Result<Answer, Stop>
     requires { IsSearch (solve_of request.now) }
-    ensures output { IfOk result (λ answer.
-        WhereTold (Some (solve (solve_of request.now))) (F.documents shelf.old) (S.left source.old)
-        (λ documents bytes. Works (SolveInput documents (string_bytes request.now.calculus)
-        (string_bytes request.now.class) bytes) (SolvesNetwork request.now.budget)
-        (string_bytes answer.text) answer.status)) }
-    ensures status { IfOk result (λ answer. IsSearchStatus answer.status) }
-    ensures cause { IfErr result (λ stop.
-        WhereTold (Some (solve (solve_of request.now))) (F.documents shelf.old) (S.left source.old)
-        (λ documents bytes. HasCause (SolveInput documents (string_bytes request.now.calculus)
-        (string_bytes request.now.class) bytes) stop)) }
-    ensures ends { OnOk result (IsAtEnd (S.left source.new)) }
+    ensures { Answers F.documents F.faults F.given F.absent_openings S.left S.faults S.given
+        (solve (solve_of request.now)) shelf.old shelf.new source.old source.new result }
+{
+    let searched = read_searched(alloc, shelf, request)?;
+    let guided = &searched.guided;
+    let net = placed_network(rt, alloc, source, &guided.calculus, &searched.polygons)?;
+    match solved_answer(rt, alloc, net, guided, request, gate) {
+        Ok(answer) => Ok(answer),
+        Err(Memory) => Err(Stop::Memory),
+    }
+}
 
-    ensures read_fault { result ≡ Err Stop.ReadFault
-        → Rose (F.faults shelf.old) (F.faults shelf.new)
-        ⊎ Rose (S.faults source.old) (S.faults source.new) }
-    ensures too_long { result ≡ Err Stop.TooLong
-        → RoseAbove (F.given shelf.old) (F.given shelf.new) MAX_TEXT
-        ⊎ RoseAbove (S.given source.old) (S.given source.new) MAX_TEXT }
-    ensures above { S.given source.old + MAX_TEXT < S.given source.new → IsTooLongStop result }
-    ensures faults_are_told { (result ≡ Err Stop.ReadFault)
-        ⊎ ((F.faults shelf.new ≡ F.faults shelf.old) × (S.faults source.new ≡ S.faults source.old)) }
-    ensures source_faults { S.faults source.old ≤ S.faults source.new }
-    ensures shelf_faults { F.faults shelf.old ≤ F.faults shelf.new }
-    ensures documents_stay { F.documents shelf.new ≡ F.documents shelf.old }
-    ensures absent_openings_stay { AbsentStays (Some (solve (solve_of request.now)))
-        (F.documents shelf.old) (F.absent_openings shelf.old) (F.absent_openings shelf.new) }
-    ensures builtin_stays { named_documents (Some (solve (solve_of request.now))) ≡ []
-        → shelf.new ≡ shelf.old }
-    ensures source_waits { SourceWaits (Some (solve (solve_of request.now)))
-        (F.documents shelf.old) (source.new ≡ source.old) }
+/// The calculus, the class and the polygons that the words name.
+fn read_searched<F: Shelf>(alloc: Global, shelf: &mut F, request: &Solve) -> Result<Searched, Stop>
+    requires { IsSearch (solve_of request.now) }
+    ensures given { Fetches F.documents F.faults F.given F.absent_openings
+        (documents_of (solve (solve_of request.now))) (DocumentsGive (solve (solve_of request.now)))
+        shelf.old shelf.new result }
+    ensures guides { IfOk result (λ searched. CanGuide searched.guided) }
+    ensures rcc8 { IfOk result (λ searched.
+        IsOnRcc8 searched.guided.calculus searched.polygons) }
 {
     let guided = calculus_and_class(
         alloc,
@@ -84,14 +91,11 @@ pub(crate) fn solve_answer<R: Threads + Sync, F: Shelf, S: Source, G: Gate + Syn
         request.calculus.as_str(),
         request.class.as_str(),
     )?;
-    let net = network(alloc, source, &guided.calculus)?;
-    match solved_answer(rt, alloc, net, &guided, request, gate) {
-        Ok(answer) => Ok(answer),
-        Err(Memory) => Err(Stop::Memory),
-    }
+    let polygons = polygons_asked(alloc, shelf, &request.polygons)?;
+    Ok(Searched { guided, polygons })
 }
 
-/// The text of the network's verdict. It is found with the calculus' tables, and written with its names.
+/// The answer to a search of the network. It is made with the calculus' tables, and written with its names.
 fn solved_answer<R: Threads + Sync, G: Gate + Sync>(
     rt: &R,
     alloc: Global,
@@ -103,47 +107,114 @@ fn solved_answer<R: Threads + Sync, G: Gate + Sync>(
     requires network { IsNetwork guided.now.calculus.algebra net.nodes net.words }
     requires guides { CanGuide guided.now }
     requires search { IsSearch (solve_of request.now) }
-    ensures output { IfOk result (λ answer. SolvesNetwork request.now.budget
-        (record { guided = guided.now; network = net }) (string_bytes answer.text) answer.status) }
-    ensures status { IfOk result (λ answer. IsSearchStatus answer.status) }
+    ensures { IfOk result (λ answer. SolvesNetwork (solve_of request.now) guided.now.calculus
+        guided.now.class net (string_bytes answer.text) answer.status) }
 {
     lawful(&guided.calculus);
     let fast = Fast::new(alloc, &guided.calculus)?;
     close_parallel(rt, alloc, &mut net, &fast, request.workers, gate)?;
     let verdict = solve(alloc, &net, &fast, &guided.class, request.budget)?;
-    verdict_answer(alloc, net, &guided.calculus, &verdict)
+    let status = verdict_status(&verdict);
+    let text = answer_text(alloc, net, &guided.calculus, verdict, request.cert)?;
+    Ok(Answer { text, status })
 }
 
-/// The text and the status of a verdict on a network.
-fn verdict_answer(
+/// The text of a verdict on a network, or the line of its certificate.
+fn answer_text(
+    alloc: Global,
+    net: Net,
+    calculus: &Calculus,
+    verdict: Verdict,
+    is_cert: bool,
+) -> Result<String, Memory>
+    requires few { length (nodes_of verdict) < 2 ^ 32 }
+    requires scenario { HasScenario calculus.now net verdict }
+    ensures { IfOk result (λ text. string_bytes text ≡ answer_text is_cert calculus.now net verdict) }
+{
+    if is_cert {
+        certificate_text(alloc, &net, calculus, verdict)
+    } else {
+        verdict_text(alloc, net, calculus, &verdict)
+    }
+}
+
+/// How a run ends that writes this verdict.
+pub(crate) fn verdict_status(verdict: &Verdict) -> Status
+    ensures { result ≡ verdict_status verdict.now }
+{
+    match verdict {
+        Verdict::Yes(_, _) => Status::Done,
+        Verdict::No(_) => Status::No,
+        Verdict::Budget(_) => Status::Budget,
+    }
+}
+
+/// The line of a verdict: its word, and the number of splits.
+pub(crate) fn verdict_line(alloc: Global, verdict: &Verdict) -> Result<String, Memory>
+    requires { length (nodes_of verdict.now) < 2 ^ 32 }
+    ensures { IfOk result (λ line.
+        string_bytes line ≡ verdict_line (verdict_word verdict.now) (nodes_of verdict.now)) }
+{
+    match verdict {
+        Verdict::Yes(_, tree) => line(alloc, "yes", tree),
+        Verdict::No(tree) => line(alloc, "no", tree),
+        Verdict::Budget(tree) => line(alloc, "budget", tree),
+    }
+}
+
+/// The text of a verdict on a network.
+fn verdict_text(
     alloc: Global,
     net: Net,
     calculus: &Calculus,
     verdict: &Verdict,
-) -> Result<Answer, Memory>
+) -> Result<String, Memory>
     requires few { length (nodes_of verdict.now) < 2 ^ 32 }
     requires scenario { HasScenario calculus.now net verdict.now }
-    ensures text { IfOk result (λ answer.
-        string_bytes answer.text ≡ verdict_text calculus.now net verdict.now) }
-    ensures status { IfOk result (λ answer. answer.status ≡ verdict_status verdict.now) }
+    ensures { IfOk result (λ text. string_bytes text ≡ verdict_text calculus.now net verdict.now) }
 {
     match verdict {
-        Verdict::Yes(scenario, tree) => {
-            let text = scenario_text(alloc, net, calculus, scenario, tree)?;
-            Ok(Answer {
-                text,
-                status: Status::Done,
-            })
-        }
-        Verdict::No(tree) => Ok(Answer {
-            text: line(alloc, "no", tree)?,
-            status: Status::No,
-        }),
-        Verdict::Budget(tree) => Ok(Answer {
-            text: line(alloc, "budget", tree)?,
-            status: Status::Budget,
-        }),
+        Verdict::Yes(scenario, tree) => scenario_text(alloc, net, calculus, scenario, tree),
+        Verdict::No(_) | Verdict::Budget(_) => verdict_line(alloc, verdict),
     }
+}
+
+/// The line of the certificate of a verdict on a network.
+fn certificate_text(
+    alloc: Global,
+    net: &Net,
+    calculus: &Calculus,
+    verdict: Verdict,
+) -> Result<String, Memory>
+    ensures { IfOk result (λ text.
+        string_bytes text ≡ certificate_text (certificate_of calculus.now net.now verdict)) }
+{
+    let (claim, scenario, tree) = match verdict {
+        Verdict::Yes(scenario, tree) => (Claim::Yes, Some(scenario), tree),
+        Verdict::No(tree) => (Claim::No, None, tree),
+        Verdict::Budget(tree) => (Claim::Budget, None, tree),
+    };
+    let certificate = Cert {
+        nodes: net.nodes(),
+        relations: copied(alloc, calculus.names())?,
+        claim,
+        scenario,
+        tree,
+    };
+    cert_file::text(alloc, &certificate)
+}
+
+/// The names once more.
+fn copied(alloc: Global, names: &[String]) -> Result<Vec<String>, Memory>
+    ensures { IfOk result (λ copy.
+        map string_bytes copy.items ≡ map string_bytes names.now) }
+{
+    let mut copy = Vec::new(alloc);
+    for name in names {
+        let name = name.clone().map_err(|_| Memory)?;
+        copy.push(name).map_err(|_| Memory)?;
+    }
+    Ok(copy)
 }
 
 /// The line of a yes, and the scenario as a network.

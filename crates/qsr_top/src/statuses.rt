@@ -10,6 +10,18 @@ pub struct Place {
 impl Place {
     ghost use Rattle.std.specs.Prelude.{◌≡◌};
 
+    /// The place of no number.
+    pub fn none() -> Place
+        ensures { result ≡ record { count = 0; a = 0; b = 0; c = 0 } }
+    {
+        Place {
+            count: 0,
+            a: 0,
+            b: 0,
+            c: 0,
+        }
+    }
+
     /// The place of one number.
     pub fn at(a: u64) -> Place
         ensures { result ≡ record { count = 1; a = a; b = 0; c = 0 } }
@@ -18,6 +30,18 @@ impl Place {
             count: 1,
             a,
             b: 0,
+            c: 0,
+        }
+    }
+
+    /// The place of two numbers.
+    pub fn at_two(a: u64, b: u64) -> Place
+        ensures { result ≡ record { count = 2; a = a; b = b; c = 0 } }
+    {
+        Place {
+            count: 2,
+            a,
+            b,
             c: 0,
         }
     }

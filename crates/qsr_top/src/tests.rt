@@ -248,14 +248,15 @@ fn searches_write_their_verdicts(rt: HostRuntime) -> Result<(), Fail> {
     Ok(())
 }
 
-/// The network of so many nodes, of which each edge has the set.
-fn complete(alloc: Global, nodes: u32, set: &str) -> Result<String, Fail> {
+/// The network of so many nodes, of which each edge has the set, with these further facts.
+fn complete(alloc: Global, nodes: u32, set: &str, facts: &str) -> Result<String, Fail> {
     let mut text = format!(in alloc; "nodes {nodes}\n")?;
     for j in 1..nodes {
         for i in 0..j {
             write!(text, "{i} {j} {set}\n")?;
         }
     }
+    text.push_str(facts)?;
     text.push_str(".\n")?;
     Ok(text)
 }
@@ -274,7 +275,7 @@ fn friends_and_strangers_are_found_up_to_five_guests(rt: HostRuntime) -> Result<
         (6, "0", "budget 0\n", Status::Budget),
     ];
     for (nodes, budget, text, status) in rows.iter() {
-        let source = complete(rt.alloc(), *nodes, "( a b )")?;
+        let source = complete(rt.alloc(), *nodes, "( a b )", "")?;
         for workers in ["1", "4", "64"].iter() {
             let words = ["solve", "table", "--budget", *budget, "--workers", *workers];
             let (ended, written) = ran_over(&rt, &words, &[("table", RAMSEY)], source.as_bytes())?;
@@ -311,7 +312,7 @@ fn a_faulty_class_is_refused_before_the_source_is_read(rt: HostRuntime) -> Resul
 #[test]
 fn a_class_of_all_sets_splits_them_into_base_relations(rt: HostRuntime) -> Result<(), Fail> {
     let class: &[u8] = b"( id )\n( a )\n( b )\n( id a )\n( id b )\n( a b )\n( id a b )\n.\n";
-    let source = complete(rt.alloc(), 6, "( a b )")?;
+    let source = complete(rt.alloc(), 6, "( a b )", "")?;
     let words = ["solve", "table", "--class", "class"];
     let documents: [(&str, &[u8]); 2] = [("table", RAMSEY), ("class", class)];
     let (status, written) = ran_over(&rt, &words, &documents, source.as_bytes())?;
@@ -322,6 +323,264 @@ fn a_class_of_all_sets_splits_them_into_base_relations(rt: HostRuntime) -> Resul
     assert_eq!(rt; status, Status::ReadFault);
     assert_eq!(rt; written.len(), 0);
     Ok(())
+}
+
+/// Each row: the words, the source, the text that is written, and the exit code.
+fn expect_over<R: Threads + Sync + Abort + AllocGlobal>(
+    rt: &R,
+    documents: &[(&str, &[u8])],
+    rows: &[(&[&str], &str, &str, u8)],
+) -> Result<(), Fail> {
+    for (words, source, text, code) in rows {
+        let (status, written) = ran_over(rt, words, documents, source.as_bytes())?;
+        assert_eq!(rt; status.code(), *code, "{words:?}");
+        assert_eq!(rt; written.as_slice(), text.as_bytes(), "{words:?}");
+    }
+    Ok(())
+}
+
+/// The line of a certificate that says no, over friends and strangers.
+fn refuting(alloc: Global, nodes: u32, tree: &str, version: u32) -> Result<String, Fail> {
+    let guests = r#""relations":["id","a","b"]"#;
+    let verdict = r#""verdict":"no""#;
+    Ok(format!(in alloc;
+        "{{\"nodes\":{nodes},{guests},\"tree\":[{tree}],{verdict},\"version\":{version}}}\n"
+    )?)
+}
+
+/// Checks a certificate of the six guests: the text that is written, and the exit code.
+fn expect_checked<R: Threads + Sync + Abort + AllocGlobal>(
+    rt: &R,
+    cert: &str,
+    text: &str,
+    code: u8,
+) -> Result<(), Fail> {
+    let source = complete(rt.alloc(), 6, "( a b )", KNOWN)?;
+    let documents: [(&str, &[u8]); 2] = [("table", RAMSEY), ("cert", cert.as_bytes())];
+    let words: &[&str] = &["check", "table", "cert"];
+    expect_over(rt, &documents, &[(words, source.as_str(), text, code)])
+}
+
+// who knows whom of six guests, and the trees that refute it
+const KNOWN: &str = "0 1 ( a )\n0 2 ( b )\n0 3 ( a )\n0 4 ( b )\n";
+
+const SWEPT: &str = r#"["split",0,5,[2,4],[1,2]],["empty"],["empty"]"#;
+
+const SPLIT: &str = r#"["split",0,5,[2,4],[1,2],[[1,0,3],[2,0,4]]]"#;
+
+const EMPTIED: &str = r#"["empty",[[1,0,5],[3,0,5],[3,1,5]]]"#;
+
+const EMPTIED_TOO: &str = r#"["empty",[[2,0,5],[4,0,5],[4,2,5]]]"#;
+
+#[test]
+fn certificates_are_checked(rt: HostRuntime) -> Result<(), Fail> {
+    // how many nodes, the tree, the version, the text that is written, and the exit code
+    let rows: [(u32, &str, u32, &str, u8); 6] = [
+        (6, SWEPT, 1, "accepted\n", 0),
+        (5, SWEPT, 1, "not accepted 27\n", 8),
+        (6, SWEPT, 3, "refused 32 6 0\n", 3),
+        (
+            6,
+            r#"["split",0,5,[2],[1]],["empty"]"#,
+            1,
+            "not accepted 28 0\n",
+            8,
+        ),
+        (
+            6,
+            r#"["split",0,5,[2,4],[2,1]],["empty"],["empty"]"#,
+            1,
+            "not accepted 30 0\n",
+            8,
+        ),
+        (
+            6,
+            r#"["split",0,5,[2,4],[1,2]],["empty"],["open"]"#,
+            1,
+            "not accepted 30 2\n",
+            8,
+        ),
+    ];
+    for (nodes, tree, version, text, code) in rows.iter() {
+        let cert = refuting(rt.alloc(), *nodes, tree, *version)?;
+        expect_checked(&rt, cert.as_str(), text, *code)?;
+    }
+    expect_checked(&rt, "{", "refused 31\n", 3)
+}
+
+#[test]
+fn traced_certificates_are_checked(rt: HostRuntime) -> Result<(), Fail> {
+    // the first empty node, the second one, the text that is written, and the exit code
+    let rows: [(&str, &str, &str, u8); 4] = [
+        (EMPTIED, EMPTIED_TOO, "accepted\n", 0),
+        (EMPTIED, r#"["empty","sweep"]"#, "accepted\n", 0),
+        (
+            r#"["empty",[[1,0,5],[3,0,5]]]"#,
+            EMPTIED_TOO,
+            "not accepted 29 1\n",
+            8,
+        ),
+        (
+            r#"["empty",[[1,0,5],[3,0,5],[3,1,6]]]"#,
+            EMPTIED_TOO,
+            "not accepted 51 1 2\n",
+            8,
+        ),
+    ];
+    for (first, second, text, code) in rows.iter() {
+        let tree = format!(in rt.alloc(); "{SPLIT},{first},{second}")?;
+        let cert = refuting(rt.alloc(), 6, tree.as_str(), 2)?;
+        expect_checked(&rt, cert.as_str(), text, *code)?;
+    }
+    Ok(())
+}
+
+#[test]
+fn certificates_are_written_and_traced(rt: HostRuntime) -> Result<(), Fail> {
+    let source = complete(rt.alloc(), 6, "( a b )", KNOWN)?;
+    let source = source.as_str();
+    let swept = refuting(rt.alloc(), 6, SWEPT, 1)?;
+    let tree = format!(in rt.alloc(); "{SPLIT},{EMPTIED},{EMPTIED_TOO}")?;
+    let traced = refuting(rt.alloc(), 6, tree.as_str(), 2)?;
+    let other = refuting(rt.alloc(), 5, SWEPT, 1)?;
+    let documents: [(&str, &[u8]); 3] = [
+        ("table", RAMSEY),
+        ("swept", swept.as_bytes()),
+        ("other", other.as_bytes()),
+    ];
+    let rows: [(&[&str], &str, &str, u8); 4] = [
+        (&["solve", "table", "--cert"], source, swept.as_str(), 1),
+        (&["solve", "table"], source, "no 1\n", 1),
+        (&["trace", "table", "swept"], source, traced.as_str(), 0),
+        (&["trace", "table", "other"], source, "not accepted 27\n", 8),
+    ];
+    expect_over(&rt, &documents, &rows)
+}
+
+#[test]
+fn polygons_are_related(rt: HostRuntime) -> Result<(), Fail> {
+    let nested: &[u8] =
+        b"a POLYGON ((0 0, 10 0, 10 10, 0 10, 0 0))\nb POLYGON ((0 0, 5 0, 5 5, 0 5, 0 0))\n\
+        c POLYGON ((2 2, 4 2, 4 4, 2 4, 2 2))\n";
+    let thirds: &[u8] =
+        b"t POLYGON ((0 0, 3 0, 3 1, 0 0))\nu POLYGON ((1 -1, 2 -1, 2 2, 1 2, 1 -1))\n";
+    let beside: &[u8] =
+        b"a POLYGON ((0 0, 10 0, 10 10, 0 10, 0 0))\nf POLYGON ((10 0, 20 0, 20 10, 10 10, 10 0))\n";
+    let documents: [(&str, &[u8]); 4] = [
+        ("nested", nested),
+        ("thirds", thirds),
+        ("beside", beside),
+        ("empty", b""),
+    ];
+    let pairs = "a b 212F11FF2 TPPi\na c 212FF1FF2 NTPPi\nb c 212FF1FF2 NTPPi\n";
+    let inner = "a c 212FF1FF2 NTPPi\nb c 212FF1FF2 NTPPi\n";
+    let rows: [(&[&str], &str, &str, u8); 6] = [
+        (&["relate", "nested"], "", pairs, 0),
+        (
+            &["relate", "nested", "--pattern", "****F****"],
+            "",
+            inner,
+            0,
+        ),
+        (
+            &["relate", "nested", "--pattern", "T*X"],
+            "",
+            "refused 37 2\n",
+            3,
+        ),
+        (&["relate", "thirds"], "", "t u 212101212 PO\n", 0),
+        (&["relate", "beside"], "", "a f FF2F11212 EC\n", 0),
+        (&["relate", "empty"], "", "", 0),
+    ];
+    expect_over(&rt, &documents, &rows)
+}
+
+#[test]
+fn faulty_polygons_are_refused(rt: HostRuntime) -> Result<(), Fail> {
+    // what stands after a polygon's name, and the line that refuses it
+    let rows: [(&str, &str); 7] = [
+        ("POLYGON ((0 0, 1 0, 0 0))", "refused 33 1\n"),
+        ("POLYGON ((0 0, 100000001 0, 0 1, 0 0))", "refused 34 1 1\n"),
+        (
+            "POLYGON ((0 0, 10 10, 10 0, 0 10, 0 0))",
+            "refused 35 1 0 2\n",
+        ),
+        ("POLYGON EMPTY", "refused 38 1\n"),
+        (
+            "POLYGON ((0 0, 9 0, 0 9, 0 0), (1 1, 2 1, 1 2, 1 1))",
+            "refused 39 1\n",
+        ),
+        ("POLYGON ((0 0, 9 0, 0 9))", "refused 40 1\n"),
+        (
+            "POLYGON ((0 0, 9 0, 0 9, 0 0))\nz POLYGON ((0 0, 9 0, 0 9, 0 0))",
+            "refused 41 2\n",
+        ),
+    ];
+    let words: &[&str] = &["relate", "polygons"];
+    for (rest, line) in rows.iter() {
+        let file = format!(in rt.alloc(); "z {rest}\n")?;
+        expect_over(
+            &rt,
+            &[("polygons", file.as_bytes())],
+            &[(words, "", *line, 3)],
+        )?;
+    }
+    Ok(())
+}
+
+/// Eight parcels of a street plan, squares in two rows; the last has this name.
+fn parcels(alloc: Global, last: &str) -> Result<String, Fail> {
+    let first =
+        "p1 POLYGON ((0 0, 10 0, 10 10, 0 10, 0 0))\np2 POLYGON ((10 0, 20 0, 20 10, 10 10, 10 0))\n\
+        p3 POLYGON ((20 0, 30 0, 30 10, 20 10, 20 0))\np4 POLYGON ((30 0, 40 0, 40 10, 30 10, 30 0))\n\
+        p5 POLYGON ((0 10, 10 10, 10 20, 0 20, 0 10))\np6 POLYGON ((10 10, 20 10, 20 20, 10 20, 10 10))\n\
+        p7 POLYGON ((20 10, 30 10, 30 20, 20 20, 20 10))\n";
+    Ok(format!(in alloc; "{first}{last} POLYGON ((30 10, 40 10, 40 20, 30 20, 30 10))\n")?)
+}
+
+const PLAN: &str = "names ( p1 p2 p3 p4 p5 p6 p7 p8 west east )\n";
+
+const DISTRICTS: &str =
+    "p1 west ( TPP NTPP )\np2 west ( TPP NTPP )\np5 west ( TPP NTPP )\np6 west ( TPP NTPP )\n\
+     p3 east ( TPP NTPP )\np4 east ( TPP NTPP )\np7 east ( TPP NTPP )\np8 east ( TPP NTPP )\nwest east ( EC )\n";
+
+const PLACED: &str =
+    "0 1 ( EC )\n0 2 ( DC )\n0 3 ( DC )\n0 4 ( EC )\n0 5 ( EC )\n0 6 ( DC )\n0 7 ( DC )\n0 8 ( TPP )\n\
+     0 9 ( DC )\n1 2 ( EC )\n1 3 ( DC )\n1 4 ( EC )\n1 5 ( EC )\n1 6 ( EC )\n1 7 ( DC )\n1 8 ( TPP )\n\
+     1 9 ( EC )\n2 3 ( EC )\n2 4 ( DC )\n2 5 ( EC )\n2 6 ( EC )\n2 7 ( EC )\n2 8 ( EC )\n2 9 ( TPP )\n\
+     3 4 ( DC )\n3 5 ( DC )\n3 6 ( EC )\n3 7 ( EC )\n3 8 ( DC )\n3 9 ( TPP )\n4 5 ( EC )\n4 6 ( DC )\n\
+     4 7 ( DC )\n4 8 ( TPP )\n4 9 ( DC )\n5 6 ( EC )\n5 7 ( DC )\n5 8 ( TPP )\n5 9 ( EC )\n6 7 ( EC )\n\
+     6 8 ( EC )\n6 9 ( TPP )\n7 8 ( DC )\n7 9 ( TPP )\n8 9 ( EC )\n";
+
+#[test]
+fn districts_are_placed_by_their_parcels(rt: HostRuntime) -> Result<(), Fail> {
+    let alloc = rt.alloc();
+    let source = format!(in alloc; "nodes 10\n{PLAN}{DISTRICTS}.\n")?;
+    let placed = format!(in alloc; "yes 8\nnodes 10\n{PLAN}{PLACED}.\n")?;
+    let (plan, other) = (parcels(alloc, "p8")?, parcels(alloc, "q8")?);
+    let solve: &[&str] = &["solve", "rcc8", "--polygons", "plan"];
+    let certify: &[&str] = &["solve", "rcc8", "--polygons", "plan", "--cert"];
+    let check: &[&str] = &["check", "rcc8", "cert", "--polygons", "plan"];
+    let misnamed: &[&str] = &["solve", "rcc8", "--polygons", "other"];
+    let plan_alone: [(&str, &[u8]); 1] = [("plan", plan.as_bytes())];
+    let (_, cert) = ran_over(&rt, certify, &plan_alone, source.as_bytes())?;
+    let documents: [(&str, &[u8]); 3] = [
+        ("plan", plan.as_bytes()),
+        ("other", other.as_bytes()),
+        ("cert", cert.as_slice()),
+    ];
+    let rows: [(&[&str], &str, &str, u8); 3] = [
+        (solve, source.as_str(), placed.as_str(), 0),
+        (misnamed, source.as_str(), "refused 43 7\n", 3),
+        (check, source.as_str(), "accepted\n", 0),
+    ];
+    expect_over(&rt, &documents, &rows)
+}
+
+#[test]
+fn a_seed_states_a_network(rt: HostRuntime) -> Result<(), Fail> {
+    let text = "demo 0 2\nkept 1\nbits 1\nyes 0\n";
+    expect_over(&rt, &[], &[(&["demo", "0", "2"], "", text, 0)])
 }
 
 #[test]

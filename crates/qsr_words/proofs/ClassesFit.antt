@@ -1,20 +1,24 @@
--- A class that words ask for fits its calculus.
+-- A class and polygons that words ask for fit the calculus.
 use Rattle.std.proofs.Common.{◌≡◌, ℕ, Bool, true, false, not, ◌==◌, ◌&&◌, ◌||◌, cond, List, [], ◌∷◌, length, Option, None, Some, option_map, refl}
-use Rattle.std.specs.Prelude.{IfSome, codes, option_and_then}
+use Rattle.std.specs.Prelude.{IfSome, codes}
 use Rattle.std.specs.List.{list_any}
 use Rattle.std.specs.Str.{bytes_eq}
-use Rattle.clap.specs.Words.{fault_of, first_of, matches_of}
-use Rattle.qsr_words.specs.Asked.{Asked, asked_by, CloseAsked, SolveAsked, close, solve, class_asked, class_fits, is_rcc8_class, is_strange, solve_over, solve_with, solve_app, solve_asked, solve_by, close_asked, command_asked, command_by, budget_asked, workers_asked}
-use Rattle.qsr_words.specs.Requests.{FitsClass}
+use Rattle.clap.specs.Words.{App, Row, fault_of, first_of, matches_of}
+use Rattle.qsr_words.specs.Asked.{Asked, asked_by, asked_with, SolveAsked, CheckAsked, close, solve, check, trace, relate, demo, class_asked, class_fits, polygons_asked, polygons_fit, is_rcc8_class, is_strange}
+use Rattle.qsr_words.specs.Asked.{solve_over, solve_with, solve_app, solve_asked, solve_by, check_over, check_with, check_app, check_asked, check_by, close_asked, relate_asked, demo_asked, command_asked, command_by, budget_asked, workers_asked, is_flag_there}
+use Rattle.qsr_words.specs.Requests.{FitsCalculus}
 
-abbrev Fits : SolveAsked → Type 0
-Fits asked = class_fits asked.calculus asked.class ≡ true
+abbrev FitsSolve : SolveAsked → Type 0
+FitsSolve asked = (class_fits asked.calculus asked.class ≡ true) × (polygons_fit asked.calculus asked.polygons ≡ true)
+
+abbrev FitsCheck : CheckAsked → Type 0
+FitsCheck asked = polygons_fit asked.calculus asked.polygons ≡ true
 
 usual_fits : (b : Bool) → (b || not (is_rcc8_class (cond b (codes "h8") (codes "none")))) ≡ true
 usual_fits true = refl
 usual_fits false = refl
 
-named_fits : (x y : Bool) (word : List ℕ) (P : List ℕ → Type 0) → (y ≡ true → P word) → IfSome (cond (x && y) (Some word) None) P
+named_fits : {X : Type 0} (x y : Bool) (word : X) (P : X → Type 0) → (y ≡ true → P word) → IfSome (cond (x && y) (Some word) None) P
 named_fits true true word P f = f refl
 named_fits true false word P f = tt
 named_fits false y word P f = tt
@@ -23,46 +27,75 @@ class_known : (c : List ℕ) (k : Option (List ℕ)) → IfSome (class_asked c k
 class_known c None = usual_fits (bytes_eq c (codes "rcc8"))
 class_known c (Some word) = named_fits (not (length word == 0)) (class_fits c word) word _ (λ e. e)
 
-over_known : (c : List ℕ) (k : Option (List ℕ)) (b w : Option ℕ) → IfSome k (λ v. class_fits c v ≡ true) → IfSome (solve_over c k b w) Fits
-over_known c None b w h = tt
-over_known c (Some k) None w h = tt
-over_known c (Some k) (Some b) None h = tt
-over_known c (Some k) (Some b) (Some w) h = h
+none_fits : (b : Bool) → (b || true) ≡ true
+none_fits true = refl
+none_fits false = refl
 
-with_known : (c k : Option (List ℕ)) (b w : Option ℕ) → IfSome (solve_with c k b w) Fits
-with_known None k b w = tt
-with_known (Some c) k b w = over_known c (class_asked c k) b w (class_known c k)
+polygons_known : (c : List ℕ) (p : Option (List ℕ)) → IfSome (polygons_asked c p) (λ v. polygons_fit c v ≡ true)
+polygons_known c None = none_fits (bytes_eq c (codes "rcc8"))
+polygons_known c (Some word) = named_fits (not (length word == 0)) (polygons_fit c (Some word)) (Some word) _ (λ e. e)
 
-cond_known : {A : Type 0} (b : Bool) (o : Option A) (P : A → Type 0) → IfSome o P → IfSome (cond b o None) P
-cond_known true o P h = h
-cond_known false o P h = tt
+over_known : (c : List ℕ) (k : Option (List ℕ)) (p : Option (Option (List ℕ))) (b w : Option ℕ) (t : Bool) → IfSome k (λ v. class_fits c v ≡ true) →
+    IfSome p (λ v. polygons_fit c v ≡ true) → IfSome (solve_over c k p b w t) FitsSolve
+over_known c None p b w t h g = tt
+over_known c (Some k) None b w t h g = tt
+over_known c (Some k) (Some p) None w t h g = tt
+over_known c (Some k) (Some p) (Some b) None t h g = tt
+over_known c (Some k) (Some p) (Some b) (Some w) t h g = (h, g)
 
-solve_known : (words : List (List ℕ)) → IfSome (solve_asked words) Fits
-solve_known words =
-    let found = matches_of solve_app words in
-    cond_known (length (fault_of solve_app words) == 0) (solve_by found) Fits
-    (with_known (first_of (codes "calculus") found) (first_of (codes "class") found) (budget_asked (first_of (codes "budget") found)) (workers_asked (first_of (codes "workers") found)))
+with_known : (c k p : Option (List ℕ)) (b w : Option ℕ) (t : Bool) → IfSome (solve_with c k p b w t) FitsSolve
+with_known None k p b w t = tt
+with_known (Some c) k p b w t = over_known c (class_asked c k) (polygons_asked c p) b w t (class_known c k) (polygons_known c p)
 
-fits_either : (b : Bool) (x y : Option Asked) → FitsClass x → FitsClass y → FitsClass (cond b x y)
+check_over_known : (c : List ℕ) (t : Option (List ℕ)) (p : Option (Option (List ℕ))) → IfSome p (λ v. polygons_fit c v ≡ true) → IfSome (check_over c t p) FitsCheck
+check_over_known c None p h = tt
+check_over_known c (Some t) None h = tt
+check_over_known c (Some t) (Some p) h = h
+
+check_with_known : (c t p : Option (List ℕ)) → IfSome (check_with c t p) FitsCheck
+check_with_known None t p = tt
+check_with_known (Some c) t p = check_over_known c t (polygons_asked c p) (polygons_known c p)
+
+asked_known : {A : Type 0} (app : App) (by : List Row → Option A) (P : A → Type 0) (words : List (List ℕ)) → ((rows : List Row) → IfSome (by rows) P) → IfSome (asked_with app by words) P
+asked_known app by P words h = pick (length (fault_of app words) == 0) (by (matches_of app words)) (h (matches_of app words))
+  where
+    pick : (b : Bool) (o : Option _) → IfSome o P → IfSome (cond b o None) P
+    pick true o h = h
+    pick false o h = tt
+
+solve_known : (words : List (List ℕ)) → IfSome (solve_asked words) FitsSolve
+solve_known words = asked_known solve_app solve_by FitsSolve words (λ rows.
+    with_known (first_of (codes "calculus") rows) (first_of (codes "class") rows) (first_of (codes "polygons") rows)
+    (budget_asked (first_of (codes "budget") rows)) (workers_asked (first_of (codes "workers") rows)) (is_flag_there (first_of (codes "cert") rows)))
+
+check_known : (words : List (List ℕ)) → IfSome (check_asked words) FitsCheck
+check_known words = asked_known check_app check_by FitsCheck words (λ rows.
+    check_with_known (first_of (codes "calculus") rows) (first_of (codes "certificate") rows) (first_of (codes "polygons") rows))
+
+fits_either : (b : Bool) (x y : Option Asked) → FitsCalculus x → FitsCalculus y → FitsCalculus (cond b x y)
 fits_either true x y h k = h
 fits_either false x y h k = k
 
-close_fits : (o : Option CloseAsked) → FitsClass (option_map close o)
-close_fits None = tt
-close_fits (Some asked) = tt
+fits_of : {A : Type 0} (of : A → Asked) (o : Option A) → IfSome o (λ a. FitsCalculus (Some (of a))) → FitsCalculus (option_map of o)
+fits_of of None h = tt
+fits_of of (Some a) h = h
 
-solve_fits : (o : Option SolveAsked) → IfSome o Fits → FitsClass (option_map solve o)
-solve_fits None h = tt
-solve_fits (Some asked) h = h
+fits_any : {A : Type 0} (of : A → Asked) (o : Option A) → ((a : A) → FitsCalculus (Some (of a))) → FitsCalculus (option_map of o)
+fits_any of None h = tt
+fits_any of (Some a) h = h a
 
-by_fits : (name : List ℕ) (words : List (List ℕ)) → FitsClass (command_by name words)
+by_fits : (name : List ℕ) (words : List (List ℕ)) → FitsCalculus (command_by name words)
 by_fits name words =
-    fits_either (bytes_eq name (codes "close")) _ _ (close_fits (close_asked words))
-    (fits_either (bytes_eq name (codes "solve")) (option_map solve (solve_asked words)) None (solve_fits (solve_asked words) (solve_known words)) tt)
+    fits_either (bytes_eq name (codes "close")) _ _ (fits_any close (close_asked words) (λ a. tt))
+    (fits_either (bytes_eq name (codes "solve")) _ _ (fits_of solve (solve_asked words) (solve_known words))
+    (fits_either (bytes_eq name (codes "check")) _ _ (fits_of check (check_asked words) (check_known words))
+    (fits_either (bytes_eq name (codes "trace")) _ _ (fits_of trace (check_asked words) (check_known words))
+    (fits_either (bytes_eq name (codes "relate")) _ _ (fits_any relate (relate_asked words) (λ a. tt))
+    (fits_either (bytes_eq name (codes "demo")) (option_map demo (demo_asked words)) None (fits_any demo (demo_asked words) (λ a. tt)) tt)))))
 
-command_fits : (words : List (List ℕ)) → FitsClass (command_asked words)
+command_fits : (words : List (List ℕ)) → FitsCalculus (command_asked words)
 command_fits [] = tt
 command_fits (name ∷ rest) = by_fits name (name ∷ rest)
 
-pub words_fit : (words : List (List ℕ)) → FitsClass (asked_by words)
+pub words_fit : (words : List (List ℕ)) → FitsCalculus (asked_by words)
 words_fit words = fits_either (list_any is_strange words) None (command_asked words) tt (command_fits words)

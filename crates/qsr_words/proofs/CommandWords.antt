@@ -1,8 +1,12 @@
 -- What words ask for, by the test of each and by the first.
-use Rattle.std.proofs.Common.{◌≡◌, ◌≤◌, Bool, true, false, List, [], ◌∷◌, length, map, get_or, refl, sym, ap, ◌∙◌, ◌||◌, cond, None, String, Global, arith}
+use Rattle.std.proofs.Common.{◌≡◌, ◌≤◌, Bool, true, false, List, [], ◌∷◌, length, map, get_or, refl, sym, ap, ◌∙◌, ◌||◌, cond, Option, None, Some, option_map, String, Global, arith}
+use Rattle.std.specs.Prelude.{IsSomeAnd, MatchOption, unwrap_or}
 use Rattle.std.specs.List.{list_any}
 use Rattle.std.specs.String.{string_bytes}
-use Rattle.qsr_words.specs.Asked.{asked_by, command_asked, command_by, is_strange}
+use Rattle.qsr_words.specs.Asked.{Asked, asked_by, command_asked, command_by, is_strange}
+use Rattle.qsr_words.specs.Requests.{asked_of}
+use Rattle.qsr_words.specs.declared.reading.Request.{Request}
+use Rattle.qsr_words.specs.declared.reading.Request.TheVariants as request
 
 list_any-map : {X Y : Type 0} (p : Y → Bool) (f : X → Y) (xs : List X) → list_any p (map f xs) ≡ list_any (λ x. p (f x)) xs
 list_any-map p f [] = refl
@@ -30,3 +34,12 @@ command_asks words first plain some at =
         command_by (string_bytes first) (map string_bytes ws) ≡ command_asked (map string_bytes ws)
     by_first [] some at = absurd (omega arith)
     by_first (w ∷ ws) some at = ap (λ x. command_by (string_bytes x) (map string_bytes (w ∷ ws))) at
+
+-- what a request made from what a command's words ask for asks
+pub asked_of-made : {A B : Type 0} (read : Option A) (made : Option Request) (to : A → Request) (view : A → B) (of : B → Asked) (asked : Option B) →
+    MatchOption read (made ≡ None) (λ x. IsSomeAnd made (λ y. y ≡ to x)) → ((x : A) → asked_of (to x) ≡ Some (of (view x))) → option_map view read ≡ asked →
+    asked_of (unwrap_or made request.Usage) ≡ option_map of asked
+asked_of-made None None to view of asked h same e = ap (option_map of) e
+asked_of-made None (Some y) to view of asked h same e = cc
+asked_of-made (Some x) None to view of asked h same e = absurd h
+asked_of-made (Some x) (Some y) to view of asked h same e = ap asked_of h ∙ same x ∙ ap (option_map of) e

@@ -1,3 +1,4 @@
 pub mod FoundWords
 pub mod CommandWords
 pub mod ClassesFit
+pub mod Commands

@@ -1,3 +1,4 @@
 pub mod Asked
 pub mod Requests
 pub mod Found
+pub mod Values

@@ -1,10 +1,15 @@
 -- Requests as the definitions see them.
-use Rattle.std.specs.Prelude.{◌≡◌, ℕ, ◌≤◌, ⊤, true, Option, Some, None}
+use Rattle.std.specs.Prelude.{◌≡◌, ℕ, ◌≤◌, ⊤, true, Option, Some, None, option_map}
 use Rattle.std.specs.String.{string_bytes}
-use Rattle.qsr_words.specs.Asked.{Asked, CloseAsked, SolveAsked, close, solve, class_fits}
+use Rattle.qsr_words.specs.Asked.{Asked, CloseAsked, SolveAsked, CheckAsked, RelateAsked, DemoAsked}
+use Rattle.qsr_words.specs.Asked.{close, solve, check, trace, relate, demo, class_fits, polygons_fit}
 use Rattle.qsr_words.specs.declared.TheConstants.{MIN_WORKERS, MAX_WORKERS, MAX_BUDGET}
+use Rattle.qsr_words.specs.declared.TheConstants.{MAX_SEED, MIN_DEMO_NODES, MAX_DEMO_NODES}
 use Rattle.qsr_words.specs.declared.close.Close.{Close}
 use Rattle.qsr_words.specs.declared.solve.Solve.{Solve}
+use Rattle.qsr_words.specs.declared.check.Check.{Check}
+use Rattle.qsr_words.specs.declared.relate.Relate.{Relate}
+use Rattle.qsr_words.specs.declared.demo.Demo.{Demo}
 use Rattle.qsr_words.specs.declared.reading.Request.{Request}
 use Rattle.qsr_words.specs.declared.reading.Request.TheVariants as request
 
@@ -12,32 +17,76 @@ abbrev pub close_of : Close → CloseAsked
 close_of c = record { calculus = string_bytes c.calculus; workers = c.workers }
 
 abbrev pub solve_of : Solve → SolveAsked
-solve_of s = record { calculus = string_bytes s.calculus; class = string_bytes s.class; budget = s.budget; workers = s.workers }
+solve_of s = record {
+  calculus = string_bytes s.calculus;
+  class = string_bytes s.class;
+  polygons = option_map string_bytes s.polygons;
+  budget = s.budget;
+  workers = s.workers;
+  is_cert = s.cert;
+}
+
+abbrev pub check_of : Check → CheckAsked
+check_of c = record {
+  calculus = string_bytes c.calculus;
+  certificate = string_bytes c.certificate;
+  polygons = option_map string_bytes c.polygons;
+}
+
+abbrev pub relate_of : Relate → RelateAsked
+relate_of r = record { polygons = string_bytes r.polygons; pattern = option_map string_bytes r.pattern }
+
+abbrev pub demo_of : Demo → DemoAsked
+demo_of d = record { seed = d.seed; nodes = d.nodes }
 
 -- what the request asks for, if it asks for something
 abbrev pub asked_of : Request → Option Asked
 asked_of (request.Close c) = Some (close (close_of c))
 asked_of (request.Solve s) = Some (solve (solve_of s))
+asked_of (request.Check c) = Some (check (check_of c))
+asked_of (request.Trace c) = Some (trace (check_of c))
+asked_of (request.Relate r) = Some (relate (relate_of r))
+asked_of (request.Demo d) = Some (demo (demo_of d))
 asked_of request.Usage = None
 
 -- so many workers as a command takes
 abbrev pub AreWorkers : ℕ → Type 0
 AreWorkers workers = (MIN_WORKERS ≤ workers) × (workers ≤ MAX_WORKERS)
 
--- a search with a class that fits the calculus, and a budget and workers within the limits
+-- a search with a class and polygons that fit the calculus, and a budget and workers within the limits
 pub record IsSearch (asked : SolveAsked) : Type 0 where
   pub fits : class_fits asked.calculus asked.class ≡ true
+  pub polygons : polygons_fit asked.calculus asked.polygons ≡ true
   pub budget : asked.budget ≤ MAX_BUDGET
   pub workers : AreWorkers asked.workers
 
--- the class that guides a search fits its calculus; nothing is asked of other commands
-abbrev pub FitsClass : Option Asked → Type 0
-FitsClass None = ⊤
-FitsClass (Some (close asked)) = ⊤
-FitsClass (Some (solve asked)) = class_fits asked.calculus asked.class ≡ true
+-- a certificate to check or to trace, with polygons that fit the calculus
+pub record IsCheck (asked : CheckAsked) : Type 0 where
+  pub polygons : polygons_fit asked.calculus asked.polygons ≡ true
+
+-- a demonstration with a seed and a number of nodes within the limits
+pub record IsDemo (asked : DemoAsked) : Type 0 where
+  pub seed : asked.seed ≤ MAX_SEED
+  pub some_nodes : MIN_DEMO_NODES ≤ asked.nodes
+  pub few_nodes : asked.nodes ≤ MAX_DEMO_NODES
+
+-- the class that guides a search and the polygons fit the calculus
+abbrev pub FitsCalculus : Option Asked → Type 0
+FitsCalculus None = ⊤
+FitsCalculus (Some (close asked)) = ⊤
+FitsCalculus (Some (solve asked)) =
+    (class_fits asked.calculus asked.class ≡ true) × (polygons_fit asked.calculus asked.polygons ≡ true)
+FitsCalculus (Some (check asked)) = polygons_fit asked.calculus asked.polygons ≡ true
+FitsCalculus (Some (trace asked)) = polygons_fit asked.calculus asked.polygons ≡ true
+FitsCalculus (Some (relate asked)) = ⊤
+FitsCalculus (Some (demo asked)) = ⊤
 
 -- the request is within the limits of its command
 abbrev pub IsWithinLimits : Request → Type 0
 IsWithinLimits (request.Close c) = AreWorkers c.workers
 IsWithinLimits (request.Solve s) = IsSearch (solve_of s)
+IsWithinLimits (request.Check c) = IsCheck (check_of c)
+IsWithinLimits (request.Trace c) = IsCheck (check_of c)
+IsWithinLimits (request.Relate r) = ⊤
+IsWithinLimits (request.Demo d) = IsDemo (demo_of d)
 IsWithinLimits request.Usage = ⊤

@@ -2,13 +2,14 @@
 ghost use Rattle.std.specs.Prelude.{◌≡◌, IfOk, IfSome, map, option_map};
 ghost use Rattle.std.specs.String.{string_bytes};
 ghost use Rattle.clap.specs.Words.{app_of};
-ghost use Rattle.qsr_words.specs.Asked.{close_app, close_asked};
+ghost use Rattle.qsr_words.specs.Asked.{close_app, close_asked, close_by};
+ghost use Rattle.qsr_words.specs.Found.{values_of};
 ghost use Rattle.qsr_words.specs.Requests.{close_of, AreWorkers};
 
-use crate::command::{calculus_word, found, option};
+use crate::command::{found, option, value, word};
 use crate::values::workers;
 use calculus_table::Memory;
-use clap::Command;
+use clap::{ArgMatches, Command};
 use std::alloc::{AllocError, Global};
 
 /// A request to close the network of the source.
@@ -29,13 +30,21 @@ pub(crate) fn read(alloc: Global, words: &[String]) -> Result<Option<Close>, Mem
     let Ok(command) = command(alloc) else {
         return Err(Memory);
     };
-    let Some(found) = found(command, words)? else {
+    match found(command, words)? {
+        Some(found) => request(alloc, &found),
+        None => Ok(None),
+    }
+}
+
+/// The request of the values found, if they are all there and within the limits.
+fn request(alloc: Global, found: &ArgMatches<'_>) -> Result<Option<Close>, Memory>
+    ensures asked { IfOk result (λ close. option_map close_of close ≡ close_by (values_of found.now)) }
+    ensures limits { IfOk result (λ close. IfSome close (λ c. AreWorkers c.workers)) }
+{
+    let Some(calculus) = value(found, "calculus") else {
         return Ok(None);
     };
-    let Some(calculus) = found.get_str("calculus") else {
-        return Ok(None);
-    };
-    let Some(workers) = workers(found.get_str("workers")) else {
+    let Some(workers) = workers(value(found, "workers")) else {
         return Ok(None);
     };
     let Ok(calculus) = String::from_str(alloc, calculus) else {
@@ -49,6 +58,6 @@ fn command<'a>(alloc: Global) -> Result<Command<'a>, AllocError>
     ensures { IfOk result (λ command. app_of command ≡ close_app) }
 {
     Command::new(alloc, "close")
-        .arg(calculus_word(alloc))?
+        .arg(word(alloc, "calculus"))?
         .arg(option(alloc, "workers"))
 }

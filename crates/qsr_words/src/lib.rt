@@ -6,16 +6,22 @@
 //! the words; `asked_by` is defined by that function. Words that ask for nothing have the usage line.
 #![tactic(auto)]
 
+mod check;
 mod close;
 mod command;
+mod demo;
 mod reading;
+mod relate;
 mod solve;
 #[cfg(test)]
 mod tests;
 mod values;
 
+pub use check::Check;
 pub use close::Close;
+pub use demo::Demo;
 pub use reading::{Request, read};
+pub use relate::Relate;
 pub use solve::Solve;
 
 /// The least number of workers that a command takes.
@@ -32,3 +38,12 @@ pub const MAX_BUDGET: u32 = 10_000;
 
 /// The budget of splits where the words name none.
 pub const USUAL_BUDGET: u32 = 1_000;
+
+/// The greatest seed of a demonstration.
+pub const MAX_SEED: u32 = 4_294_967_295;
+
+/// The least number of nodes of a demonstration.
+pub const MIN_DEMO_NODES: u32 = 2;
+
+/// The greatest number of nodes of a demonstration.
+pub const MAX_DEMO_NODES: u32 = 256;

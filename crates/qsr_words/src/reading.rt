@@ -5,9 +5,12 @@ ghost use Rattle.std.specs.String.{string_bytes};
 ghost use Rattle.qsr_words.specs.Asked.{asked_by, command_by, is_strange};
 ghost use Rattle.qsr_words.specs.Requests.{asked_of, IsWithinLimits};
 
+use crate::check::Check;
 use crate::close::Close;
+use crate::demo::Demo;
+use crate::relate::Relate;
 use crate::solve::Solve;
-use crate::{close, solve};
+use crate::{check, close, demo, relate, solve};
 use calculus_table::Memory;
 use std::alloc::Global;
 
@@ -18,6 +21,14 @@ pub enum Request {
     Close(Close),
     /// To search for a scenario of a network.
     Solve(Solve),
+    /// To check a certificate.
+    Check(Check),
+    /// To trace a certificate.
+    Trace(Check),
+    /// To relate each two polygons.
+    Relate(Relate),
+    /// To show a search at work.
+    Demo(Demo),
     /// Nothing that there is: the usage line is the answer.
     Usage,
 }
@@ -42,19 +53,16 @@ fn request_by(alloc: Global, name: &str, words: &[String]) -> Result<Request, Me
         asked_of request ≡ command_by name.now (map string_bytes words.now)) }
     ensures limits { IfOk result IsWithinLimits }
 {
-    if name == "close" {
-        return match close::read(alloc, words)? {
-            Some(close) => Ok(Request::Close(close)),
-            None => Ok(Request::Usage),
-        };
-    }
-    if name == "solve" {
-        return match solve::read(alloc, words)? {
-            Some(solve) => Ok(Request::Solve(solve)),
-            None => Ok(Request::Usage),
-        };
-    }
-    Ok(Request::Usage)
+    let request = match name {
+        "close" => close::read(alloc, words)?.map(Request::Close),
+        "solve" => solve::read(alloc, words)?.map(Request::Solve),
+        "check" => check::read(alloc, words)?.map(Request::Check),
+        "trace" => check::read(alloc, words)?.map(Request::Trace),
+        "relate" => relate::read(alloc, words)?.map(Request::Relate),
+        "demo" => demo::read(alloc, words)?.map(Request::Demo),
+        _ => None,
+    };
+    Ok(request.unwrap_or(Request::Usage))
 }
 
 /// Whether no command takes one of the words.

@@ -12,6 +12,14 @@ fn owned(alloc: Global, name: &str, rest: &[&str]) -> Result<Vec<String>, Fail> 
     Ok(words)
 }
 
+/// The text, and the empty one where there is none.
+fn text_or_none(text: &Option<String>) -> &str {
+    match text {
+        Some(text) => text.as_str(),
+        None => "",
+    }
+}
+
 #[test]
 fn words_of_close_are_taken(rt: HostRuntime) -> Result<(), Fail> {
     let alloc = rt.alloc();
@@ -48,21 +56,32 @@ fn words_of_close_are_taken(rt: HostRuntime) -> Result<(), Fail> {
     Ok(())
 }
 
+/// What a row says of a search: the calculus, the class, the polygons or no text, the budget, the number of workers,
+/// and whether the answer is a certificate.
+type Search<'a> = (&'a str, &'a str, &'a str, u32, u32, bool);
+
 #[test]
 fn words_of_solve_are_taken(rt: HostRuntime) -> Result<(), Fail> {
     let alloc = rt.alloc();
-    // the words after `solve`, the calculus, the class, the budget, and the number of workers
-    let rows: [(&[&str], &str, &str, u32, u32); 5] = [
-        (&["rcc8"], "rcc8", "h8", 1000, 4),
-        (&["allen"], "allen", "none", 1000, 4),
+    // the words after `solve`, and the search
+    let rows: [(&[&str], Search<'_>); 9] = [
+        (&["rcc8"], ("rcc8", "h8", "", 1000, 4, false)),
+        (&["allen"], ("allen", "none", "", 1000, 4, false)),
+        (&["rcc8", "--cert"], ("rcc8", "h8", "", 1000, 4, true)),
+        (&["--cert", "point"], ("point", "none", "", 1000, 4, true)),
+        (&["t", "--class", "k"], ("t", "k", "", 1000, 4, false)),
         (
-            &["a.table", "--class", "a.class"],
-            "a.table",
-            "a.class",
-            1000,
-            4,
+            &["--class=q8", "rcc8", "--budget=0"],
+            ("rcc8", "q8", "", 0, 4, false),
         ),
-        (&["--class=q8", "rcc8", "--budget=0"], "rcc8", "q8", 0, 4),
+        (
+            &["rcc8", "--polygons", "p"],
+            ("rcc8", "h8", "p", 1000, 4, false),
+        ),
+        (
+            &["--polygons=a=b", "--cert", "rcc8"],
+            ("rcc8", "h8", "a=b", 1000, 4, true),
+        ),
         (
             &[
                 "rcc8",
@@ -72,54 +91,137 @@ fn words_of_solve_are_taken(rt: HostRuntime) -> Result<(), Fail> {
                 "10000",
                 "--workers=1",
             ],
-            "rcc8",
-            "none",
-            10_000,
-            1,
+            ("rcc8", "none", "", 10_000, 1, false),
         ),
     ];
-    for (rest, calculus, class, budget, workers) in rows.iter() {
+    for (rest, search) in rows.iter() {
         let request = read(alloc, &owned(alloc, "solve", rest)?).map_err(|_| "memory")?;
         let Request::Solve(solve) = request else {
             return Err(Fail::from("no search"));
         };
-        assert_eq!(rt; solve.calculus.as_str(), *calculus, "{rest:?}");
-        assert_eq!(rt; solve.class.as_str(), *class, "{rest:?}");
-        assert_eq!(rt; solve.budget, *budget, "{rest:?}");
-        assert_eq!(rt; solve.workers, *workers, "{rest:?}");
+        let (calculus, class, polygons, budget, workers, cert) = *search;
+        assert_eq!(rt; solve.calculus.as_str(), calculus, "{rest:?}");
+        assert_eq!(rt; solve.class.as_str(), class, "{rest:?}");
+        assert_eq!(rt; text_or_none(&solve.polygons), polygons, "{rest:?}");
+        assert_eq!(rt;
+            (solve.budget, solve.workers, solve.cert),
+            (budget, workers, cert),
+            "{rest:?}"
+        );
     }
     Ok(())
 }
 
 #[test]
-fn other_words_ask_for_no_search(rt: HostRuntime) -> Result<(), Fail> {
+fn words_of_check_and_trace_are_taken(rt: HostRuntime) -> Result<(), Fail> {
     let alloc = rt.alloc();
-    let rows: [&[&str]; 9] = [
-        &["rcc8", "--budget", "10001"],
-        &["rcc8", "--budget", "5", "--budget", "6"],
-        &["allen", "--class", "h8"],
-        &["point", "--class=c8"],
-        &["a.table", "--class=q8"],
-        &["rcc8", "--class="],
-        &["rcc8", "--budget="],
-        &["rcc8", "--cert"],
-        &[],
+    // the words after `check` or `trace`, the calculus, the certificate, and the polygons or no text
+    let rows: [(&[&str], &str, &str, &str); 4] = [
+        (&["allen", "c"], "allen", "c", ""),
+        (&["t", "rcc8"], "t", "rcc8", ""),
+        (&["rcc8", "--polygons", "p", "c"], "rcc8", "c", "p"),
+        (&["--polygons=p", "rcc8", "c"], "rcc8", "c", "p"),
     ];
-    for rest in rows.iter() {
-        let request = read(alloc, &owned(alloc, "solve", rest)?).map_err(|_| "memory")?;
-        assert!(rt; matches!(&request, Request::Usage), "{rest:?}");
+    for (rest, calculus, certificate, polygons) in rows.iter() {
+        let request = read(alloc, &owned(alloc, "check", rest)?).map_err(|_| "memory")?;
+        let Request::Check(check) = request else {
+            return Err(Fail::from("nothing to check"));
+        };
+        let request = read(alloc, &owned(alloc, "trace", rest)?).map_err(|_| "memory")?;
+        let Request::Trace(trace) = request else {
+            return Err(Fail::from("nothing to trace"));
+        };
+        for taken in [&check, &trace] {
+            assert_eq!(rt; taken.calculus.as_str(), *calculus, "{rest:?}");
+            assert_eq!(rt; taken.certificate.as_str(), *certificate, "{rest:?}");
+            assert_eq!(rt; text_or_none(&taken.polygons), *polygons, "{rest:?}");
+        }
     }
     Ok(())
 }
 
 #[test]
-fn other_first_words_ask_for_nothing(rt: HostRuntime) -> Result<(), Fail> {
+fn words_of_relate_are_taken(rt: HostRuntime) -> Result<(), Fail> {
     let alloc = rt.alloc();
-    let rows: [&[&str]; 4] = [
+    // the words after `relate`, the polygons, and the pattern or no text
+    let rows: [(&[&str], &str, &str); 4] = [
+        (&["p"], "p", ""),
+        (&["p", "--pattern="], "p", ""),
+        (&["p", "--pattern", "T*F**F***"], "p", "T*F**F***"),
+        (&["--pattern=?", "p"], "p", "?"),
+    ];
+    for (rest, polygons, pattern) in rows.iter() {
+        let request = read(alloc, &owned(alloc, "relate", rest)?).map_err(|_| "memory")?;
+        let Request::Relate(relate) = request else {
+            return Err(Fail::from("nothing to relate"));
+        };
+        assert_eq!(rt; relate.polygons.as_str(), *polygons, "{rest:?}");
+        assert_eq!(rt; text_or_none(&relate.pattern), *pattern, "{rest:?}");
+    }
+    Ok(())
+}
+
+#[test]
+fn words_of_demo_are_taken(rt: HostRuntime) -> Result<(), Fail> {
+    let alloc = rt.alloc();
+    // the words after `demo`, the seed, and the number of nodes
+    let rows: [(&[&str], u32, u32); 3] = [
+        (&["0", "2"], 0, 2),
+        (&["4294967295", "256"], 4_294_967_295, 256),
+        (&["007", "03"], 7, 3),
+    ];
+    for (rest, seed, nodes) in rows.iter() {
+        let request = read(alloc, &owned(alloc, "demo", rest)?).map_err(|_| "memory")?;
+        let Request::Demo(demo) = request else {
+            return Err(Fail::from("no demonstration"));
+        };
+        assert_eq!(rt; (demo.seed, demo.nodes), (*seed, *nodes), "{rest:?}");
+    }
+    Ok(())
+}
+
+#[test]
+fn other_words_ask_for_nothing(rt: HostRuntime) -> Result<(), Fail> {
+    let alloc = rt.alloc();
+    let rows: [&[&str]; 38] = [
         &[],
         &["--workers", "2", "close", "rcc8"],
         &["--help"],
         &["open", "rcc8"],
+        &["solve", "rcc8", "--budget", "10001"],
+        &["solve", "rcc8", "--budget", "5", "--budget", "6"],
+        &["solve", "allen", "--class", "h8"],
+        &["solve", "point", "--class=c8"],
+        &["solve", "a.table", "--class=q8"],
+        &["solve", "rcc8", "--class="],
+        &["solve", "rcc8", "--budget="],
+        &["solve", "allen", "--polygons", "p"],
+        &["solve", "rcc8", "--polygons="],
+        &["solve", "rcc8", "--polygons"],
+        &["solve", "rcc8", "--cert=x"],
+        &["solve", "rcc8", "--cert="],
+        &["solve", "rcc8", "--cert", "--cert"],
+        &["solve", "rcc8", "--cert", "true"],
+        &["solve", "rcc8", "--pattern", "t"],
+        &["solve"],
+        &["check", "rcc8"],
+        &["check", "allen", "c", "--polygons", "p"],
+        &["check", "rcc8", "c", "--polygons="],
+        &["check", "rcc8", "c", "d"],
+        &["check", "rcc8", "c", "--cert"],
+        &["trace", "t"],
+        &["trace", "t", "c", "--polygons=p"],
+        &["relate"],
+        &["relate", "p", "q"],
+        &["relate", "p", "--pattern", "-"],
+        &["demo", "0", "1"],
+        &["demo", "4294967296", "2"],
+        &["demo", "0", "257"],
+        &["demo", "0"],
+        &["demo", "-1", "2"],
+        &["demo", "0", "2", "3"],
+        &["demo", "0x1", "2"],
+        &["demo", "0", "2", "--workers", "1"],
     ];
     for row in rows.iter() {
         let mut words = Vec::new(alloc);

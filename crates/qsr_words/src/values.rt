@@ -1,11 +1,18 @@
 //! The values of the commands' options, and the usual ones where the words name none.
-ghost use Rattle.std.specs.Prelude.{◌≡◌, ◌≤◌, true, IfSome, option_map};
+ghost use Rattle.std.specs.Prelude.{◌≡◌, ◌≤◌, true, IfOk, IfSome, option_map};
+ghost use Rattle.std.specs.String.{string_bytes};
 ghost use Rattle.qsr_words.specs.Asked.{number_within, workers_asked, budget_asked, is_rcc8_class};
-ghost use Rattle.qsr_words.specs.Asked.{class_fits, class_asked, usual_class};
+ghost use Rattle.qsr_words.specs.Asked.{class_fits, class_asked, usual_class, polygons_fit};
+ghost use Rattle.qsr_words.specs.Asked.{polygons_asked, seed_asked, nodes_asked};
+ghost use Rattle.qsr_words.specs.Asked.{is_flag_there};
 ghost use Rattle.qsr_words.specs.Requests.{AreWorkers};
 
-use crate::{MAX_BUDGET, MAX_WORKERS, MIN_WORKERS, USUAL_BUDGET, USUAL_WORKERS};
+use crate::{
+    MAX_BUDGET, MAX_DEMO_NODES, MAX_SEED, MAX_WORKERS, MIN_DEMO_NODES, MIN_WORKERS, USUAL_BUDGET,
+    USUAL_WORKERS,
+};
 use qsr_lex::number;
+use std::alloc::{AllocError, Global};
 
 /// The value of a word that is a number from `least` to `most`.
 fn number_within(word: &str, least: u32, most: u32) -> Option<u32>
@@ -52,6 +59,52 @@ pub(crate) fn class<'a>(calculus: &str, word: Option<&'a str>) -> Option<&'a str
         Some(word) if !word.is_empty() && class_fits(calculus, word) => Some(word),
         Some(_) => None,
         None => Some(usual_class(calculus)),
+    }
+}
+
+/// The polygons that a word names for a calculus, and none where there is no word.
+pub(crate) fn polygons<'a>(calculus: &str, word: Option<&'a str>) -> Option<Option<&'a str>>
+    ensures value { option_map (option_map (λ text. text.now)) result
+        ≡ polygons_asked calculus.now (option_map (λ text. text.now) word.entry) }
+    ensures fits { IfSome result (λ polygons.
+        polygons_fit calculus.now (option_map (λ text. text.now) polygons) ≡ true) }
+{
+    match word {
+        Some(word) if !word.is_empty() && calculus == "rcc8" => Some(Some(word)),
+        Some(_) => None,
+        None => Some(None),
+    }
+}
+
+/// The seed that a word is.
+pub(crate) fn seed(word: Option<&str>) -> Option<u32>
+    ensures { result ≡ seed_asked (option_map (λ text. text.now) word.entry) }
+{
+    number_within(word?, 0, MAX_SEED)
+}
+
+/// The number of nodes of a demonstration that a word is.
+pub(crate) fn demo_nodes(word: Option<&str>) -> Option<u32>
+    ensures value { result ≡ nodes_asked (option_map (λ text. text.now) word.entry) }
+    ensures within { IfSome result (λ n. (MIN_DEMO_NODES ≤ n) × (n ≤ MAX_DEMO_NODES)) }
+{
+    number_within(word?, MIN_DEMO_NODES, MAX_DEMO_NODES)
+}
+
+/// Whether an option without a value is there, by the value that `clap` gives it.
+pub(crate) fn is_flag_there(value: Option<&str>) -> bool
+    ensures { result ≡ is_flag_there (option_map (λ text. text.now) value.entry) }
+{
+    value == Some("true")
+}
+
+/// The text of its own, if there is one.
+pub(crate) fn owned(alloc: Global, text: Option<&str>) -> Result<Option<String>, AllocError>
+    ensures { IfOk result (λ owned. option_map string_bytes owned ≡ option_map (λ t. t.now) text.entry) }
+{
+    match text {
+        Some(text) => Ok(Some(String::from_str(alloc, text)?)),
+        None => Ok(None),
     }
 }
 

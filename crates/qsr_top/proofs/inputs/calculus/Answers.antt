@@ -1,7 +1,7 @@
-use Rattle.qsr_top.specs.Inputs.{builtin_of}
-use Rattle.qsr_top.proofs.Guides.{there_of_none}
+use Rattle.qsr_top.proofs.Guides.{table_fetched}
 use Rattle.qsr_top.proofs.inputs.calculus.Goals as goal
 
-pub returns-in-Ok-None-clause-absent_openings_stay : goal.returns-in-Ok-None-clause-absent_openings_stay
-returns-in-Ok-None-clause-absent_openings_stay g c =
-    λ there. c.table.ensures.absent_openings_stay (there_of_none (builtin_of c.args.word.now) c.args.word.now _ (rw c.in-Ok-None.field-0-is at c.in-Ok-None.ensures) there)
+pub returns-in-Ok-None : goal.returns-in-Ok-None
+returns-in-Ok-None g c =
+    table_fetched g.F.Source.documents g.F.Source.faults g.F.Source.given g.F.Source.absent_openings c.args.word.now c.args.shelf.now c.table.new.shelf
+    c.table.result (rw c.in-Ok-None.field-0-is at c.in-Ok-None.ensures) c.table.ensures

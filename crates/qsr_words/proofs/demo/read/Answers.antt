@@ -1,0 +1,11 @@
+use Rattle.std.proofs.Common.{subst, ◌∙◌, map}
+use Rattle.std.specs.String.{string_bytes}
+use Rattle.qsr_words.specs.Asked.{demo_app, demo_by}
+use Rattle.qsr_words.specs.Found.{IsFoundIn}
+use Rattle.qsr_words.proofs.FoundWords.{words_found}
+use Rattle.qsr_words.proofs.demo.read.Goals as goal
+
+pub returns-in-Some-clause-asked : goal.returns-in-Some-clause-asked
+returns-in-Some-clause-asked c =
+    let found = subst (λ a. IsFoundIn a (map string_bytes c.args.words.now) c.in-Some.found) c.in-Ok.ensures (rw c.in-Some.is at c.in_ok-found.ensures) in
+    c.request.ensures.asked ∙ words_found demo_app demo_by (map string_bytes c.args.words.now) c.in-Some.found found
