@@ -1,3 +1,15 @@
 pub mod Sessions
+pub mod Dealt
+pub mod Back
+pub mod Narrowings
+pub mod StatedFacts
+pub mod Made
 pub mod Lines
 pub mod Readings
+pub mod Fitting
+pub mod Pieces
+pub mod Taken
+pub mod Jobs
+pub mod FactsOfLines
+pub mod KeptAfter
+pub mod RepliesOfLines
