@@ -3,6 +3,7 @@ pub mod Steps
 pub mod Refutes
 pub mod TreeFault
 pub mod Ends
+pub mod Compositions
 pub mod Networks
 pub mod Ways
 pub mod Stacks

@@ -1,7 +1,8 @@
 //! Networks above one another, each worked from the one under it.
 //!
 //! The top alone is stored. What each network replaced is kept, so that the one under it is had back by undoing that,
-//! the last first. A step costs one composition. A network that is closed is closed from scratch.
+//! the last first. A step costs one composition, which mostly was looked up before and is kept. A network that is
+//! closed is closed from scratch.
 
 ghost use Rattle.std.specs.Prelude.{◌≡◌, ◌<◌, All, OnOk, length, slice_set};
 ghost use Rattle.network_words.specs.Edge.{edge_count, edge_between, IsProperTriple};
@@ -11,6 +12,7 @@ ghost use Rattle.refutation.specs.Steps.{node_steps};
 ghost use Rattle.refutation.specs.Refutes.{after_step, after_steps, IsWorked};
 ghost use Rattle.refutation.specs.Networks.{restored, KeepsTrail};
 
+use crate::compositions::Compositions;
 use crate::ruling::rule;
 use crate::tree::{Step, Steps};
 use calculus_table::{Compose, Memory, Rel, lawful};
@@ -67,18 +69,29 @@ pub(crate) fn set_after(net: &Net, c: &Fast, step: &Step) -> Rel
 }
 
 /// Takes a step.
-fn take_step(net: &mut Net, trail: &mut Vec<Replaced>, c: &Fast, step: &Step) -> Result<(), Memory>
-    requires network { IsNetwork c.now net.old.nodes net.old.words }
+fn take_step(
+    net: &mut Net,
+    trail: &mut Vec<Replaced>,
+    c: &mut Compositions,
+    step: &Step,
+) -> Result<(), Memory>
+    requires network { IsNetwork c.old net.old.nodes net.old.words }
     requires proper { IsProperTriple net.old.nodes step.now.i step.now.j step.now.k }
     ensures words { OnOk result (net.new ≡ record net.old {
-      words = after_step c.now net.old.nodes net.old.words step.now;
+      words = after_step c.old net.old.nodes net.old.words step.now;
     }) }
     ensures trail { OnOk result
         (KeepsTrail net.old.nodes net.old.words trail.old.items net.new.words trail.new.items) }
     ensures nodes { net.new.nodes ≡ net.old.nodes }
+    ensures calculus { c.new ≡ c.old }
 {
+    lawful(c.calculus());
+    let first = net.get(c.calculus(), step.i, step.j);
+    let second = net.get(c.calculus(), step.j, step.k);
+    let composed = c.compose(first, second);
+    let along = oriented(c.calculus(), step.i, step.k, composed);
     let edge = edge_between(net.nodes(), step.i, step.k);
-    let set = set_after(net, c, step);
+    let set = net.word(edge).meet(along);
     replace(net, trail, edge, set)
 }
 
@@ -86,17 +99,18 @@ fn take_step(net: &mut Net, trail: &mut Vec<Replaced>, c: &Fast, step: &Step) ->
 fn take_steps(
     net: &mut Net,
     trail: &mut Vec<Replaced>,
-    c: &Fast,
+    c: &mut Compositions,
     steps: &[Step],
 ) -> Result<(), Memory>
-    requires network { IsNetwork c.now net.old.nodes net.old.words }
+    requires network { IsNetwork c.old net.old.nodes net.old.words }
     requires proper { All (λ step. IsProperTriple net.old.nodes step.i step.j step.k) steps.now }
     ensures words { OnOk result (net.new ≡ record net.old {
-      words = after_steps c.now net.old.nodes net.old.words steps.now;
+      words = after_steps c.old net.old.nodes net.old.words steps.now;
     }) }
     ensures trail { OnOk result
         (KeepsTrail net.old.nodes net.old.words trail.old.items net.new.words trail.new.items) }
     ensures nodes { net.new.nodes ≡ net.old.nodes }
+    ensures calculus { c.new ≡ c.old }
 {
     for step in steps {
         take_step(net, trail, c, step)?;
@@ -129,23 +143,24 @@ fn work(
     alloc: Global,
     net: &mut Net,
     trail: &mut Vec<Replaced>,
-    c: &Fast,
+    c: &mut Compositions,
     steps: &Steps,
 ) -> Result<(), Memory>
-    requires network { IsNetwork c.now net.old.nodes net.old.words }
+    requires network { IsNetwork c.old net.old.nodes net.old.words }
     requires steps { AreSteps net.old.nodes (node_steps steps.now) }
     ensures worked { OnOk result
-        (IsWorked c.now net.old.nodes (node_steps steps.now) net.old.words net.new.words) }
+        (IsWorked c.old net.old.nodes (node_steps steps.now) net.old.words net.new.words) }
     ensures rest { OnOk result (net.new ≡ record net.old { words = net.new.words }) }
     ensures trail { OnOk result
         (KeepsTrail net.old.nodes net.old.words trail.old.items net.new.words trail.new.items) }
     ensures nodes { net.new.nodes ≡ net.old.nodes }
+    ensures calculus { c.new ≡ c.old }
 {
     match steps {
         Steps::List(steps) => take_steps(net, trail, c, steps),
         Steps::Sweep => {
             let mut closed = net.copy()?;
-            close(alloc, &mut closed, c)?;
+            close(alloc, &mut closed, c.calculus())?;
             replace_all(net, trail, &closed)
         }
     }
@@ -165,7 +180,7 @@ fn undo(net: &mut Net, trail: Vec<Replaced>)
 /// Networks above one another, each worked from the one under it.
 #[derive(Debug, Drop)]
 pub(crate) struct Stepped {
-    calculus: Fast,
+    calculus: Compositions,
     net: Net,
     trails: Vec<Vec<Replaced>>,
 }
@@ -214,10 +229,10 @@ impl Stepped {
             (IsStackOf (C.algebra c.now) net.now.nodes net.now.words (node_steps steps.now)) }
         ensures closed { IfOk result (λ stack. stack.is_closed ≡ false) }
     {
-        let calculus = Fast::of(alloc, c)?;
+        let mut calculus = Compositions::of(alloc, c)?;
         let mut net = net.copy()?;
         let mut trail = Vec::new(alloc);
-        work(alloc, &mut net, &mut trail, &calculus, steps)?;
+        work(alloc, &mut net, &mut trail, &mut calculus, steps)?;
         Ok(Stepped {
             calculus,
             net,
@@ -241,10 +256,10 @@ impl Stepped {
         ensures steps { IfOk result (λ ruled.
             AreStepsOf cut (C.algebra c.now) net.now.nodes net.now.words ruled.1.items) }
     {
-        let calculus = Fast::of(alloc, c)?;
+        let calculus = Compositions::of(alloc, c)?;
         let mut net = net.copy()?;
         let mut trail = Vec::new(alloc);
-        let steps = rule(alloc, &mut net, &mut trail, &calculus, cut, all)?;
+        let steps = rule(alloc, &mut net, &mut trail, calculus.calculus(), cut, all)?;
         let stepped = Stepped {
             calculus,
             net,
@@ -304,7 +319,7 @@ impl Stepped {
         let mut trail = Vec::new(alloc);
         let met = self.net.word(edge).meet(part);
         replace(&mut self.net, &mut trail, edge, met)?;
-        work(alloc, &mut self.net, &mut trail, &self.calculus, steps)?;
+        work(alloc, &mut self.net, &mut trail, &mut self.calculus, steps)?;
         let Ok(()) = self.trails.push(trail) else {
             return Err(Memory);
         };
@@ -337,7 +352,14 @@ impl Stepped {
         let mut trail = Vec::new(alloc);
         let set = self.net.word(edge).meet(part);
         replace(&mut self.net, &mut trail, edge, set)?;
-        let steps = rule(alloc, &mut self.net, &mut trail, &self.calculus, cut, all)?;
+        let steps = rule(
+            alloc,
+            &mut self.net,
+            &mut trail,
+            self.calculus.calculus(),
+            cut,
+            all,
+        )?;
         let Ok(()) = self.trails.push(trail) else {
             return Err(Memory);
         };

@@ -9,7 +9,7 @@ use Rattle.refutation.proofs.stepped.take_steps.Goals as goal
 
 pub loop-step-preserved : goal.loop-step-preserved
 loop-step-preserved c =
-    let m = c.args.c.now in
+    let m = c.loop-step.c in
     let old = c.args.net.now in
     let net = c.loop-step.net in
     let new = c.take_step.new.net in
@@ -22,9 +22,10 @@ loop-step-preserved c =
     let here : drop at c.args.steps.now ≡ step ∷ drop (at + 1) c.args.steps.now =
     drop-cons c.args.steps.now at (record { i = 0; j = 0; k = 0 }) (omega arith) ∙ ap (λ k. step ∷ drop k c.args.steps.now) (sym (add-one at)) in
     record {
-      network = rw (taken.nodes, words) (after_step-network m net.nodes net.words step inv.network);
+      calculus = taken.calculus ∙ inv.calculus;
+      network = rw (taken.calculus, taken.nodes, words) (after_step-network m net.nodes net.words step inv.network);
       rest = words-then old net new (after_step m net.nodes net.words step) inv.rest taken.words;
-      left = rw (taken.nodes, words) (ap (after_steps m net.nodes net.words) (sym here) ∙ inv.left);
+      left = rw (taken.calculus, taken.nodes, words) (ap (after_steps m net.nodes net.words) (sym here) ∙ inv.left);
       trail = KeepsTrail-then old.nodes old.words net.words new.words c.args.trail.now.items c.loop-step.trail.items c.take_step.new.trail.items
           inv.trail (KeepsTrail-nodes net.nodes old.nodes net.words new.words c.loop-step.trail.items c.take_step.new.trail.items nodes taken.trail);
     }

@@ -6,8 +6,9 @@ use Rattle.refutation.proofs.stepped.take_steps.Given as goal
 
 abbrev pub invariant-loop-step : goal.invariant-loop-step
 invariant-loop-step l = record {
+  calculus : l.c ≡ l.initial.c;
   network : IsNetwork l.c l.net.nodes l.net.words;
   rest : l.net ≡ record l.initial.net { words = l.net.words };
-  left : after_steps l.c l.net.nodes l.net.words (drop l.step-index l.steps) ≡ after_steps l.c l.initial.net.nodes l.initial.net.words l.steps;
+  left : after_steps l.c l.net.nodes l.net.words (drop l.step-index l.steps) ≡ after_steps l.initial.c l.initial.net.nodes l.initial.net.words l.steps;
   trail : KeepsTrail l.initial.net.nodes l.initial.net.words l.initial.trail.items l.net.words l.trail.items;
 }

@@ -41,5 +41,6 @@ returns-clause-stack c =
     let a = c.self.inside in
     let t = trail c in
     let nodes : c.work.new.net.nodes ≡ a.net.nodes = c.in_ok-work.ensures.nodes ∙ c.in_ok-replace.ensures.nodes in
+    let calculus = c.in_ok-work.ensures.calculus in
     let under = under-pushed a.net.words c.work.new.net.words a.trails.items c.push.new.self.items c.work.new.trail c.in-Ok.ensures.items t.restored_is in
-    rw (← c.self.view_is) (λ i. let s : NetworkStack = record { algebra = a.calculus; nodes = nodes i; is_closed = false; top = c.work.new.net.words; under = under i } in s)
+    rw (← c.self.view_is) (λ i. let s : NetworkStack = record { algebra = calculus i; nodes = nodes i; is_closed = false; top = c.work.new.net.words; under = under i } in s)
