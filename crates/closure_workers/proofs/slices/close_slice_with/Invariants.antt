@@ -2,7 +2,7 @@ use Rattle.std.proofs.Common.{◌≡◌}
 use Rattle.std.specs.Prelude.{sum}
 use Rattle.edge_table.specs.Opening.{IsPassOf}
 use Rattle.edge_table.specs.Passes.{ReadsAll}
-use Rattle.closure_workers.proofs.slices.close_piece.Given as goal
+use Rattle.closure_workers.proofs.slices.close_slice_with.Given as goal
 
 abbrev pub invariant-loop-pass : goal.invariant-loop-pass
 invariant-loop-pass g l = record {

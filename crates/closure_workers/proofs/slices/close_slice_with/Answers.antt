@@ -1,6 +1,6 @@
 use Rattle.std.proofs.Common.{arith}
 use Rattle.network_words.proofs.Refinements.{sum-refines}
-use Rattle.closure_workers.proofs.slices.close_piece.Goals as goal
+use Rattle.closure_workers.proofs.slices.close_slice_with.Goals as goal
 
 pub loop-pass-smaller : goal.loop-pass-smaller
 loop-pass-smaller g c =
