@@ -22,5 +22,6 @@ pub(crate) fn is_word_byte(byte: u8) -> bool
     ensures { result ≡ is_word_byte byte }
 {
     // Letters and digits pass the first test.
-    (byte > b',' && byte != b':') || !matches!(byte, b' ' | b'\t' | b'(' | b')' | b',' | b':' | b'#')
+    (byte > b',' && byte != b':')
+        || !matches!(byte, b' ' | b'\t' | b'(' | b')' | b',' | b':' | b'#')
 }

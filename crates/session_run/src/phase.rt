@@ -117,8 +117,9 @@ fn narrow_at_once<R: Threads + Sync, C: Compose + Sync, G: Gate + Sync>(
     let (table, pass) = open(alloc, net, c, weight)?;
     let (rest, sessions) = deal_sessions(alloc, &table, pass, lines)?;
     let (home, pieces) = deal_pieces(alloc, &table, rest, net.edges(), count)?;
-    let (sessions, pieces) =
-        run_at_once(rt, &table, c, gate, closed, &points, threads, sessions, pieces);
+    let (sessions, pieces) = run_at_once(
+        rt, &table, c, gate, closed, &points, threads, sessions, pieces,
+    );
     let (pass, copies) = gather_pieces(alloc, &table, home, pieces)?;
     let (pass, done) = gather_sessions(alloc, &table, pass, sessions)?;
     table.close(pass, net);
@@ -168,7 +169,19 @@ fn run_at_once<R: Threads + Sync, C: Compose + Sync, G: Gate + Sync>(
             × (asked_of_sessions result.0.items ≡ asked_of_sessions sessions.items)
             × All (HasWorked (C.algebra c.entry.now) table.entry.now) result.1.items
             × (length result.1.items ≡ length pieces.items) }
-    { run_both(rt, table, c, gate, closed, points, threads - 1, sessions, pieces) };
+    {
+        run_both(
+            rt,
+            table,
+            c,
+            gate,
+            closed,
+            points,
+            threads - 1,
+            sessions,
+            pieces,
+        )
+    };
     let (_, ran) = thread::join(rt, pass, rest);
     ran
 }

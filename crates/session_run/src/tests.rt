@@ -249,7 +249,14 @@ fn replies_by<R: Threads + Sync + Abort, G: Gate + Sync>(
     let mut text = String::new(alloc);
     for _batch in 0..20 {
         let Some(replies) = next_replies(
-            rt, alloc, store, &mut reader, &mut source, c, workers, gate,
+            rt,
+            alloc,
+            store,
+            &mut reader,
+            &mut source,
+            c,
+            workers,
+            gate,
         )?
         else {
             return Ok(text);

@@ -7,7 +7,7 @@ pub loop-at-preserved : goal.loop-at-preserved
 loop-at-preserved c =
     let h = c.loop-at.invariant in
     let run = run-goes_on c.args.text.now c.loop-at.at (omega arith) (omega (arith, c.stops-found.ensures)) in
-    record { plain = omega (arith, run, h.plain); inside = omega arith; }
+    record { plain = omega (arith, run, h.plain); inside = omega arith }
 
 pub returns-then-found-ne0-clause-value : goal.returns-then-found-ne0-clause-value
 returns-then-found-ne0-clause-value c =

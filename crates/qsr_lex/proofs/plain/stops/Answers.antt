@@ -9,6 +9,6 @@ returns c =
     let long = c.fits-bytes.0 in
     mask-stops _ v _ long c.fits-bytes.1
     (lanes bit_or _ _ v
-      (lanes bit_and _ _ v (zip2_splat {Y = ℕ} _ v 16 32 long) (zip2_splat {Y = ℕ} _ v 16 9 long))
-      (lanes bit_or _ _ v (zip2_splat {Y = ℕ} _ v 16 35 long) (zip2_splat_left (λ (a b : ℕ). cond (leb a b) 255 0) 127 16 v long)))
+    (lanes bit_and _ _ v (zip2_splat {Y = ℕ} _ v 16 32 long) (zip2_splat {Y = ℕ} _ v 16 9 long))
+    (lanes bit_or _ _ v (zip2_splat {Y = ℕ} _ v 16 35 long) (zip2_splat_left (λ (a b : ℕ). cond (leb a b) 255 0) 127 16 v long)))
     refl
