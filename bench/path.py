@@ -33,7 +33,6 @@ use network_words::{Net, edge_between};
 use std::alloc::Global;
 use std::io;
 use std::io::Read;
-use std::mem;
 use std::time::{Clock, Instant};
 
 /// How many steps are taken: some 7,900 narrowings and as many steps back.
@@ -136,7 +135,9 @@ fn steps_of(alloc: Global, path: &mut ClosedPath, count: u32) -> Result<Vec<Step
     for _ in 0..count {
         let step = if let Step::Narrow { .. } = next {
             untried.push(Step::Back).map_err(|_| Memory)?;
-            mem::replace(&mut next, Step::Back)
+            let narrowing = next;
+            next = Step::Back;
+            narrowing
         } else if let Some(edge) = next_open(path, from) {
             let word = word_of(path, edge);
             untried.push(Step::Narrow { edge, set: others_of(word) }).map_err(|_| Memory)?;
