@@ -1,19 +1,22 @@
 -- Copies of a network's sets: settled, met with words, and compared with them.
-use Rattle.std.proofs.Common.{◌≡◌, ℕ, ◌+◌, ◌<◌, ◌≤◌, List, sym, subst, arith, inl, inr}
+use Rattle.std.proofs.Common.{◌≡◌, ℕ, ◌+◌, ◌<◌, ◌≤◌, List, ap, sym, subst, arith, inl, inr}
 use Rattle.std.proofs.lemmas.Bool.{cases_lt}
 use Rattle.calculus_table.specs.Algebra.{Algebra}
+use Rattle.calculus_table.specs.Composition.{full_of}
 use Rattle.network_words.specs.Edge.{edge_at, IsProperTriple}
-use Rattle.network_words.specs.Closure.{IsRangeClosed}
+use Rattle.network_words.specs.Closure.{IsClosed, IsRangeClosed}
 use Rattle.network_words.proofs.Edges.{edge_at-order}
 use Rattle.network_words.proofs.Pairs.{pair-first, pair-second, pair-outer}
 use Rattle.compose_fast.specs.Planes.{AreBaseTables}
 use Rattle.closure_seq.specs.declared.span.Span.{Span}
-use Rattle.closure_seq.specs.Worklist.{Worklist, IsIdle}
-use Rattle.closure_seq.specs.Propagation.{IsInStep, IsRefinement, IsReady, IsSettled, IsStored}
+use Rattle.closure_seq.specs.Worklist.{Worklist, IsIdle, IsBegun}
+use Rattle.closure_seq.specs.Propagation.{AreConverses, IsInStep, IsRefinement, IsReady, IsSettled, IsStored}
 use Rattle.closure_seq.specs.Paths.{IsPlanes}
-use Rattle.closure_seq.specs.Copies.{CopyState, IsSettledCopy, IsMet, AreRowsOf}
+use Rattle.closure_seq.specs.Copies.{CopyState, IsCopyOf, IsSettledCopy, IsMet, AreRowsOf}
 use Rattle.closure_seq.proofs.Settled.{IsSettled-met, AreRowsClosed-idle}
-use Rattle.closure_seq.proofs.Loads.{IsInStep-stored}
+use Rattle.closure_seq.proofs.Starts.{IsSettled-begun}
+use Rattle.closure_seq.proofs.Loads.{IsInStep-queue, IsInStep-stored, AreConverses-in_step}
+use Rattle.closure_seq.proofs.InStep.{AreClosed-in_step}
 use Rattle.closure_seq.proofs.Standing.{planes-le}
 
 -- the rows from that of the first edge of a slice to that of the last one
@@ -36,6 +39,38 @@ AreRowsOf-none n from to rows le = record { each = λ x y xy yb ge lt. absurd (o
 
 pub IsReady-copy : (m : Algebra) (copy : CopyState) → IsSettledCopy m copy → IsReady m copy.work.planes copy.work
 IsReady-copy m copy s = record { calculus = s.calculus; few = planes-le copy.work.planes s.planes; enough = s.enough; planes_are = λ _. copy.work.planes; sets = s.sets }
+
+-- a copy of a network, with some edges queued
+module _ (m : Algebra) (words : List ℕ) (copy : CopyState) (work : Worklist) (p : IsCopyOf m words copy) (rest : work ≡ record copy.work { queued = work.queued }) where
+  abbrev pub queued : CopyState
+  queued = record copy { slice = record copy.slice { nodes = work.nodes }; work = work }
+
+  in_step : IsInStep m copy.slice.nodes words work
+  in_step = IsInStep-queue m copy.slice.nodes words copy.work work rest p.in_step
+
+  sets : AreConverses m work
+  sets = AreConverses-in_step m copy.slice.nodes words work p.calculus p.network in_step
+
+  IsSettledCopy-queue : IsSettled m copy.rows work → IsSettledCopy m queued
+  IsSettledCopy-queue settled =
+      let planes = ap (λ (y : Worklist). y.planes) rest in
+      record {
+        calculus = p.calculus;
+        planes = subst IsPlanes (sym planes) p.planes;
+        enough = omega (arith, p.enough, planes);
+        tables = subst (λ n. AreBaseTables m n copy.bases) (sym planes) p.tables;
+        sets = sets;
+        settled = settled;
+        rows = subst (λ n. AreRowsOf n copy.slice.from copy.slice.to copy.rows) (sym in_step.nodes) p.rows;
+      }
+
+  -- those whose set isn't full
+  pub IsSettledCopy-begun : IsBegun work (full_of m) work.nodes → IsSettledCopy m queued
+  IsSettledCopy-begun begun = IsSettledCopy-queue (IsSettled-begun m copy.rows work p.calculus sets begun)
+
+  -- any, where the network is closed
+  pub IsSettledCopy-closed : IsClosed m copy.slice.nodes words → IsSettledCopy m queued
+  IsSettledCopy-closed closed = IsSettledCopy-queue (λ i j k t _ _ _. AreClosed-in_step m copy.slice.nodes words work in_step closed i j k t)
 
 -- sets met with words
 pub IsSettledCopy-met : (m : Algebra) (copy : CopyState) (work : Worklist) → IsMet m copy.work work → IsSettledCopy m copy → IsSettledCopy m (record copy { work = work })

@@ -4,9 +4,10 @@ use Rattle.calculus_table.specs.Rel.{IsWithin}
 use Rattle.calculus_table.specs.Algebra.{Algebra}
 use Rattle.calculus_table.specs.Calculus.{IsCalculus}
 use Rattle.network_words.specs.Edge.{edge_at, IsProperPair}
+use Rattle.network_words.specs.Network.{IsNetwork}
 use Rattle.compose_fast.specs.Planes.{AreBaseTables}
 use Rattle.closure_seq.specs.Worklist.{Worklist, set_of, IsQueued}
-use Rattle.closure_seq.specs.Propagation.{AreConverses, IsAmong, IsSettled}
+use Rattle.closure_seq.specs.Propagation.{AreConverses, IsInStep, IsAmong, IsSettled}
 use Rattle.closure_seq.specs.Paths.{IsPlanes}
 use Rattle.closure_seq.specs.declared.span.Span.{Span}
 
@@ -27,6 +28,16 @@ pub record CopyState : Type 0 where
 -- the edges of a slice lie in the rows
 pub record AreRowsOf (n from to : ℕ) (rows : Span) : Type 0 where
   pub each : (i k : ℕ) → i < k → k < n → from ≤ edge_at n i k → edge_at n i k < to → IsAmong rows i
+
+-- a copy that has the sets of a network
+pub record IsCopyOf (m : Algebra) (words : List ℕ) (copy : CopyState) : Type 0 where
+  pub calculus : IsCalculus m
+  pub planes : IsPlanes copy.work.planes
+  pub enough : m.size ≤ 8 * copy.work.planes
+  pub tables : AreBaseTables m copy.work.planes copy.bases
+  pub network : IsNetwork m copy.slice.nodes words
+  pub in_step : IsInStep m copy.slice.nodes words copy.work
+  pub rows : AreRowsOf copy.slice.nodes copy.slice.from copy.slice.to copy.rows
 
 -- a copy of which each triple of the slice is closed unless one of its two source edges is queued
 pub record IsSettledCopy (m : Algebra) (copy : CopyState) : Type 0 where

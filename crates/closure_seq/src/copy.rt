@@ -6,18 +6,14 @@
 //! queued, and the words are the sets of the copy, each triple of the slice is closed.
 
 ghost use Rattle.std.specs.Prelude.{◌≡◌, ◌*◌, ◌<◌, ◌≤◌, length, IsTrue};
-ghost use Rattle.calculus_table.specs.Composition.{full_of};
-ghost use Rattle.calculus_table.specs.Calculus.{IsCalculus};
 ghost use Rattle.network_words.specs.Edge.{edge_count};
-ghost use Rattle.network_words.specs.Network.{IsNetwork};
 ghost use Rattle.network_words.specs.declared.TheConstants.{MAX_NODES};
 ghost use Rattle.compose_fast.specs.Planes.{AreBaseTables};
-ghost use Rattle.closure_seq.specs.Worklist.{IsBegun};
-ghost use Rattle.closure_seq.specs.Propagation.{AreConverses, IsInStep, IsReady, IsRefinement, IsSettled};
+ghost use Rattle.closure_seq.specs.Propagation.{AreConverses, IsReady, IsRefinement, IsSettled};
 ghost use Rattle.closure_seq.specs.Paths.{IsPlanes};
 ghost use Rattle.closure_seq.specs.Copies.{IsMet};
 
-use crate::loading::{is_stored, load_queued};
+use crate::loading::{is_stored, load_planes};
 use crate::meeting::meet;
 use crate::pairs::{Note, PairSets};
 use crate::propagation::propagate_noted;
@@ -26,29 +22,6 @@ use calculus_table::{Compose, Memory, lawful};
 use compose_fast::Tables;
 use std::alloc::Global;
 use std::marker::Model;
-
-/// Loads the sets in as many planes as the calculus needs, and queues the edges whose set isn't full.
-fn load_planes<C: Compose>(pairs: &mut PairSets, tables: &mut Tables, words: &[u64], c: &C)
-    requires { IsNetwork (C.algebra c.now) pairs.old.nodes words.now }
-    ensures calculus { IsCalculus (C.algebra c.now) }
-    ensures planes { IsPlanes pairs.new.planes }
-    ensures enough { (C.algebra c.now).size ≤ 8 * pairs.new.planes }
-    ensures in_step { IsInStep (C.algebra c.now) pairs.old.nodes words.now pairs.new }
-    ensures begun { IsBegun pairs.new (full_of (C.algebra c.now)) pairs.new.nodes }
-    ensures tables { AreBaseTables (C.algebra c.now) pairs.new.planes tables.new.bases }
-{
-    lawful(c);
-    let size = c.size();
-    if size <= 8 {
-        load_queued::<C, 1>(pairs, tables, words, c);
-    } else if size <= 16 {
-        load_queued::<C, 2>(pairs, tables, words, c);
-    } else if size <= 32 {
-        load_queued::<C, 4>(pairs, tables, words, c);
-    } else {
-        load_queued::<C, 8>(pairs, tables, words, c);
-    }
-}
 
 /// Intersects each set with that of its edge, for the number of planes that the sets are kept in.
 fn meet_planes<C: Compose>(pairs: &mut PairSets, words: &[u64], c: &C)
@@ -124,9 +97,9 @@ impl SliceCopy {
     ghost use Rattle.std.specs.Prelude.{◌≡◌, ◌<◌, ◌≤◌, length, IsTrue, IfOk};
     ghost use Rattle.network_words.specs.Edge.{edge_count};
     ghost use Rattle.network_words.specs.Network.{IsNetwork};
-    ghost use Rattle.network_words.specs.Closure.{IsRangeClosed};
+    ghost use Rattle.network_words.specs.Closure.{IsClosed, IsRangeClosed};
     ghost use Rattle.network_words.specs.declared.TheConstants.{MAX_NODES};
-    ghost use Rattle.closure_seq.specs.Copies.{Slice, IsSettledCopy};
+    ghost use Rattle.closure_seq.specs.Copies.{Slice, IsCopyOf, IsSettledCopy};
 
     /// Room for copies of networks of so many nodes.
     pub fn new(alloc: Global, nodes: u32) -> Result<SliceCopy, Memory>
@@ -165,11 +138,11 @@ impl SliceCopy {
         self.from == from && self.to == to
     }
 
-    /// Takes over the words of a network, to close the edges from the number `from` up to but without `to`.
-    pub fn begin<C: Compose>(&mut self, c: &C, words: &[u64], from: u32, to: u32)
+    /// Takes over the slice of the edges from the number `from` up to but without `to`, and the words of a network.
+    fn take_over<C: Compose>(&mut self, c: &C, words: &[u64], from: u32, to: u32)
         requires network { IsNetwork (C.algebra c.now) self.old.slice.nodes words.now }
         requires below { to ≤ edge_count self.old.slice.nodes }
-        ensures settled { IsSettledCopy (C.algebra c.now) self.new }
+        ensures copy { IsCopyOf (C.algebra c.now) words.now self.new }
         ensures slice { self.new.slice ≡ record { nodes = self.old.slice.nodes; from = from; to = to } }
     {
         self.rows = rows_of(self.pairs.nodes(), from, to);
@@ -178,6 +151,30 @@ impl SliceCopy {
         self.since = self.pairs.taken();
         self.pairs.forget_notes();
         load_planes(&mut self.pairs, &mut self.tables, words, c);
+    }
+
+    /// Takes over the words of a network, to close the edges from the number `from` up to but without `to`.
+    pub fn begin<C: Compose>(&mut self, c: &C, words: &[u64], from: u32, to: u32)
+        requires network { IsNetwork (C.algebra c.now) self.old.slice.nodes words.now }
+        requires below { to ≤ edge_count self.old.slice.nodes }
+        ensures settled { IsSettledCopy (C.algebra c.now) self.new }
+        ensures slice { self.new.slice ≡ record { nodes = self.old.slice.nodes; from = from; to = to } }
+    {
+        self.take_over(c, words, from, to);
+        self.pairs.push_lesser(c.full());
+    }
+
+    /// Takes over the words of a closed network, to close the edges from the number `from` up to but without `to` where
+    /// it becomes less. No edge is queued.
+    pub fn begin_closed<C: Compose>(&mut self, c: &C, words: &[u64], from: u32, to: u32)
+        requires network { IsNetwork (C.algebra c.now) self.old.slice.nodes words.now }
+        requires closed { IsClosed (C.algebra c.now) self.old.slice.nodes words.now }
+        requires below { to ≤ edge_count self.old.slice.nodes }
+        ensures settled { IsSettledCopy (C.algebra c.now) self.new }
+        ensures slice { self.new.slice ≡ record { nodes = self.old.slice.nodes; from = from; to = to } }
+    {
+        self.take_over(c, words, from, to);
+        self.pairs.clear();
     }
 
     /// Takes over the words where they are less than the copy's sets.

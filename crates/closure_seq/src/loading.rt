@@ -1,6 +1,6 @@
 //! The sets of a network's pairs, taken from its words and stored into them again.
 
-ghost use Rattle.std.specs.Prelude.{◌≡◌, ℕ, ◌+◌, ◌<◌, ◌≤◌, length, slice_index, IsTrue};
+ghost use Rattle.std.specs.Prelude.{◌≡◌, ℕ, ◌+◌, ◌*◌, ◌<◌, ◌≤◌, length, slice_index, IsTrue};
 ghost use Rattle.calculus_table.specs.Calculus.{IsCalculus};
 ghost use Rattle.calculus_table.specs.Rel.{IsWithin};
 ghost use Rattle.calculus_table.specs.Composition.{full_of, converse};
@@ -9,6 +9,7 @@ ghost use Rattle.network_words.specs.Network.{Network, IsNetwork, relation_betwe
 ghost use Rattle.compose_fast.specs.Planes.{AreBaseTables};
 ghost use Rattle.closure_seq.specs.Worklist.{Worklist, IsSized, IsBegun, set_of, with_pair};
 ghost use Rattle.closure_seq.specs.Propagation.{IsInStep, IsLoaded, IsStored};
+ghost use Rattle.closure_seq.specs.Paths.{IsPlanes};
 
 use crate::pairs::PairSets;
 use calculus_table::{Compose, Rel, lawful};
@@ -141,6 +142,25 @@ pub(crate) fn is_stored(words: &[u64], work: &PairSets) -> bool
     true
 }
 
+/// Loads the sets of all pairs into `P` planes, and makes the tables of the calculus.
+fn load_with_tables<C: Compose, const P: usize>(
+    work: &mut PairSets,
+    tables: &mut Tables,
+    words: &[u64],
+    c: &C,
+)
+    requires few { P ≤ 8 }
+    requires network { IsNetwork (C.algebra c.now) work.old.nodes words.now }
+    ensures planes { work.new.planes ≡ P }
+    ensures in_step { IsInStep (C.algebra c.now) work.old.nodes words.now work.new }
+    ensures tables { AreBaseTables (C.algebra c.now) P tables.new.bases }
+{
+    lawful(c);
+    tables.fill::<C, P>(c);
+    work.set_planes(P);
+    load::<C, P>(work, words, c);
+}
+
 /// Loads the sets of all pairs into `P` planes, makes the tables of the calculus, and queues the edges whose set isn't
 /// full.
 pub(crate) fn load_queued<C: Compose, const P: usize>(
@@ -156,9 +176,33 @@ pub(crate) fn load_queued<C: Compose, const P: usize>(
     ensures begun { IsBegun work.new (full_of (C.algebra c.now)) work.new.nodes }
     ensures tables { AreBaseTables (C.algebra c.now) P tables.new.bases }
 {
-    lawful(c);
-    tables.fill::<C, P>(c);
-    work.set_planes(P);
-    load::<C, P>(work, words, c);
+    load_with_tables::<C, P>(work, tables, words, c);
     work.push_lesser(c.full());
+}
+
+/// Loads the sets of all pairs into as many planes as the calculus needs, and makes its tables.
+pub(crate) fn load_planes<C: Compose>(
+    work: &mut PairSets,
+    tables: &mut Tables,
+    words: &[u64],
+    c: &C,
+)
+    requires { IsNetwork (C.algebra c.now) work.old.nodes words.now }
+    ensures calculus { IsCalculus (C.algebra c.now) }
+    ensures planes { IsPlanes work.new.planes }
+    ensures enough { (C.algebra c.now).size ≤ 8 * work.new.planes }
+    ensures in_step { IsInStep (C.algebra c.now) work.old.nodes words.now work.new }
+    ensures tables { AreBaseTables (C.algebra c.now) work.new.planes tables.new.bases }
+{
+    lawful(c);
+    let size = c.size();
+    if size <= 8 {
+        load_with_tables::<C, 1>(work, tables, words, c);
+    } else if size <= 16 {
+        load_with_tables::<C, 2>(work, tables, words, c);
+    } else if size <= 32 {
+        load_with_tables::<C, 4>(work, tables, words, c);
+    } else {
+        load_with_tables::<C, 8>(work, tables, words, c);
+    }
 }

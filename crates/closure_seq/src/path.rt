@@ -12,16 +12,11 @@
 //! many changes as the sets of the first level have members.
 
 ghost use Rattle.std.specs.Prelude.{◌≡◌, ℕ, ◌*◌, ◌<◌, ◌≤◌};
-ghost use Rattle.calculus_table.specs.Calculus.{IsCalculus};
-ghost use Rattle.network_words.specs.Network.{IsNetwork};
-ghost use Rattle.compose_fast.specs.Planes.{AreBaseTables};
 ghost use Rattle.closure_seq.specs.Worklist.{Worklist};
-ghost use Rattle.closure_seq.specs.Propagation.{IsInStep};
-ghost use Rattle.closure_seq.specs.Paths.{IsQuiet, IsPlanes};
 
 use crate::closing::close_with;
 use crate::levels::{Change, Levels};
-use crate::loading::load;
+use crate::loading::load_planes;
 use crate::narrowing::{Halt, begin_level, end_level};
 use crate::pairs::PairSets;
 use crate::span::nodes_of_edge;
@@ -31,53 +26,6 @@ use compose_fast::{Fast, Tables};
 use network_words::Net;
 use std::alloc::Global;
 use std::marker::Model;
-
-/// Loads the sets of a closed network into `P` planes, with the tables of the calculus and an empty queue.
-fn load_closed<C: Compose, const P: usize>(
-    pairs: &mut PairSets,
-    tables: &mut Tables,
-    net: &Net,
-    c: &C,
-)
-    requires planes { IsPlanes P }
-    requires enough { (C.algebra c.now).size ≤ 8 * P }
-    requires nodes { pairs.old.nodes ≡ net.now.nodes }
-    requires network { IsNetwork (C.algebra c.now) net.now.nodes net.now.words }
-    ensures planes { pairs.new.planes ≡ P }
-    ensures in_step { IsInStep (C.algebra c.now) net.now.nodes net.now.words pairs.new }
-    ensures quiet { IsQuiet pairs.new }
-    ensures tables { AreBaseTables (C.algebra c.now) P tables.new.bases }
-{
-    lawful(c);
-    tables.fill::<C, P>(c);
-    pairs.set_planes(P);
-    load::<C, P>(pairs, net.words(), c);
-    pairs.clear();
-}
-
-/// Loads the sets of a closed network, in as many planes as the calculus needs.
-fn load_planes<C: Compose>(pairs: &mut PairSets, tables: &mut Tables, net: &Net, c: &C)
-    requires nodes { pairs.old.nodes ≡ net.now.nodes }
-    requires network { IsNetwork (C.algebra c.now) net.now.nodes net.now.words }
-    ensures calculus { IsCalculus (C.algebra c.now) }
-    ensures planes { IsPlanes pairs.new.planes }
-    ensures enough { (C.algebra c.now).size ≤ 8 * pairs.new.planes }
-    ensures in_step { IsInStep (C.algebra c.now) net.now.nodes net.now.words pairs.new }
-    ensures quiet { IsQuiet pairs.new }
-    ensures tables { AreBaseTables (C.algebra c.now) pairs.new.planes tables.new.bases }
-{
-    lawful(c);
-    let size = c.size();
-    if size <= 8 {
-        load_closed::<C, 1>(pairs, tables, net, c);
-    } else if size <= 16 {
-        load_closed::<C, 2>(pairs, tables, net, c);
-    } else if size <= 32 {
-        load_closed::<C, 4>(pairs, tables, net, c);
-    } else {
-        load_closed::<C, 8>(pairs, tables, net, c);
-    }
-}
 
 /// Closed networks, each above the first the closure of the one below it with one edge's set made smaller. The last
 /// is the top.
@@ -132,7 +80,8 @@ impl ClosedPath {
             mut pairs,
             mut tables,
         } = work;
-        load_planes(&mut pairs, &mut tables, &closed, &calculus);
+        load_planes(&mut pairs, &mut tables, closed.words(), &calculus);
+        pairs.clear();
         let Ok(words) = Vec::from_slice(alloc, closed.words()) else {
             return Err(Memory);
         };

@@ -21,7 +21,7 @@ use Rattle.edge_table.specs.Opening.{OpenState, opening_over}
 use Rattle.edge_table.specs.Passes.{AreClosedWords}
 use Rattle.closure_workers.specs.declared.pieces.Piece.{Piece}
 use Rattle.closure_workers.specs.Slices.{HasClash}
-use Rattle.closure_workers.specs.Pieces.{HasRun, AreDealt, IsBetween}
+use Rattle.closure_workers.specs.Pieces.{HasRun, AreDealt, IsBetween, HasSeen}
 
 -- ---- dealing
 
@@ -37,7 +37,7 @@ AreDealt-push pieces piece from to h f t e b = elim (cases_lt e from) [
 
 -- where all pieces have seen just these words, they are closed
 pub IsClosed-seen : (m : Algebra) (n : ℕ) (table : OpenState) (pieces ran : List Piece) (words : List ℕ) → IsCalculus m → IsNetwork m n words → table.opening.nodes ≡ n →
-    AreDealt pieces (edge_count n) → AllZip (HasRun m table) pieces ran → ¬ HasClash n words → All (λ p. p.snap ≡ words) ran → IsClosed m n words
+    AreDealt pieces (edge_count n) → AllZip (HasRun m table) pieces ran → ¬ HasClash n words → All (HasSeen words) ran → IsClosed m n words
 IsClosed-seen m n table pieces ran words c net nodes dealt run none all = IsClosed-range m n words c net (record {
   each = λ i k o b f t j triple.
       let d = dealt (edge_at n i k) (edge_at-lt n i k o b) in
@@ -45,7 +45,8 @@ IsClosed-seen m n table pieces ran words c net nodes dealt run none all = IsClos
       let q = get_or ran place d.piece in
       let h : HasRun m table d.piece q = subst (λ p. HasRun m table p q) d.among.2 (AllZip-get_or (HasRun m table) pieces ran place d.piece d.piece run d.among.1) in
       let below : place < length ran = (let l = length_all_zip (HasRun m table) pieces ran run in let e = d.among.1 in omega arith) in
-      let same : q.snap ≡ words = all place d.piece below in
+      let edges : q.from < q.to = (let s = h.from in let e = h.to in let f = d.from in let t = d.to in omega arith) in
+      let same : q.snap ≡ words = all place d.piece below edges in
       elim h.closed [
         | inl r ↦ (subst (λ (ws : List ℕ). IsRangeClosed m n ws d.piece.from d.piece.to) same (subst (λ x. IsRangeClosed m x q.snap d.piece.from d.piece.to) nodes r)).each i k o b d.from d.to j triple
         | inr clash ↦ absurd (none (subst (λ (ws : List ℕ). HasClash n ws) same (subst (λ x. HasClash x q.snap) nodes clash)))

@@ -45,6 +45,10 @@ pub record IsDealt (pieces : List Piece) (edge : ℕ) : Type 0 where
 abbrev pub AreDealt : List Piece → ℕ → Type 0
 AreDealt pieces edges = (e : ℕ) → e < edges → IsDealt pieces e
 
+-- a piece whose slice has edges has seen just these words in the end
+abbrev pub HasSeen : List ℕ → Piece → Type 0
+HasSeen words piece = piece.from < piece.to → piece.snap ≡ words
+
 -- the words lie between those two lists
 pub record IsBetween (low high words : List ℕ) : Type 0 where
   pub length_is : length words ≡ length high

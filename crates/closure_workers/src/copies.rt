@@ -184,8 +184,8 @@ fn take_turns<C: Compose>(
     Turn::Unknown
 }
 
-/// A copy of the snapshot for the slice: the one that is held, if it is for the slice, with what became less since;
-/// else the one that the snapshot has room for.
+/// A copy of the snapshot for the slice: the one that is held, with what became less since if it is for the slice; else
+/// the one that the snapshot has room for.
 fn begun<C: Compose>(
     c: &C,
     snap: &mut Snapshot,
@@ -203,9 +203,12 @@ fn begun<C: Compose>(
 {
     if let Some(mut copy) = held.take()
         && copy.nodes() == nodes
-        && copy.is_for(from, to)
     {
-        copy.catch_up(c, snap.words());
+        if copy.is_for(from, to) {
+            copy.catch_up(c, snap.words());
+            return Some(copy);
+        }
+        copy.begin(c, snap.words(), from, to);
         return Some(copy);
     }
     let mut copy = snap.take_copy()?;

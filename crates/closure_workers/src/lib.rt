@@ -1,4 +1,8 @@
 //! Algebraic closure by several workers at once.
+//!
+//! - [`close_parallel`] turns a network into its closure.
+//! - [`close_held`] does so at the cost of what became less since copies were made of a closed network.
+//! - [`close_slice`] and [`close_slice_with`] close some of the edges of a table that others narrow too.
 #![tactic(auto)]
 
 mod copies;
@@ -8,5 +12,6 @@ mod slices;
 #[cfg(test)]
 mod tests;
 
-pub use rounds::close_parallel;
-pub use slices::close_slice;
+pub use pieces::slice_end;
+pub use rounds::{close_held, close_parallel};
+pub use slices::{close_slice, close_slice_with};

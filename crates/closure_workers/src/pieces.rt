@@ -1,6 +1,6 @@
 //! The pieces of a round, dealt out and gathered again.
 
-ghost use Rattle.std.specs.Prelude.{◌≡◌, ℕ, ◌+◌, ◌<◌, ◌≤◌, ◌^◌, [], IfOk, List, length, vec_len, slice_index_or};
+ghost use Rattle.std.specs.Prelude.{◌≡◌, ℕ, ◌+◌, ◌<◌, ◌≤◌, ◌^◌, [], IfOk, List, length, vec_len, slice_index_or, OnOk};
 ghost use Rattle.std.specs.List.{All};
 ghost use Rattle.calculus_table.specs.Algebra.{Algebra};
 ghost use Rattle.calculus_table.specs.Composition.{full_of};
@@ -9,9 +9,9 @@ ghost use Rattle.network_words.specs.Network.{Refines};
 ghost use Rattle.narrow_core.specs.Actor.{fresh};
 ghost use Rattle.edge_table.specs.Opening.{IsPassOf, algebra_of};
 ghost use Rattle.closure_workers.specs.Slices.{IsHeld};
-ghost use Rattle.closure_workers.specs.Pieces.{IsPieceOf, HasRun, AreDealt, AreHeld, IsBetween};
+ghost use Rattle.closure_workers.specs.Pieces.{IsPieceOf, HasRun, AreDealt, AreHeld, IsBetween, HasSeen};
 
-use crate::slices::close_piece;
+use crate::slices::close_slice_with;
 use calculus_table::{Compose, Memory};
 use closure_seq::SliceCopy;
 use edge_table::{OpenNet, Pass, Snapshot};
@@ -33,6 +33,26 @@ pub(crate) struct Piece {
 
 /// How often a worker among others reads the words before it ends.
 const TIMES: u32 = 2;
+
+/// The least number of edges that are shared out. Fewer are those of less than 182 nodes.
+const SHARED: u32 = 16_384;
+
+/// Where a slice ends that begins at the edge `from`, where so many workers are left for the edges from there on. Few
+/// edges go to the last worker alone: each worker takes every edge that becomes smaller off a queue of its own, so that
+/// sharing pays only where the rows are long.
+pub fn slice_end(edges: u32, from: u32, left: u32) -> u32
+    requires some { 0 < left }
+    requires below { from ≤ edges }
+    ensures order { from ≤ result }
+    ensures below { result ≤ edges }
+    ensures last { left ≡ 1 → result ≡ edges }
+{
+    if edges < SHARED && left > 1 {
+        from
+    } else {
+        from + (edges - from) / left
+    }
+}
 
 /// A piece over a slice.
 fn piece_of(
@@ -56,7 +76,7 @@ fn piece_of(
     ensures from { IfOk result (λ piece. piece.from ≡ from) }
     ensures to { IfOk result (λ piece. piece.to ≡ to) }
 {
-    let snap = if held.is_some() {
+    let snap = if held.is_some() || from == to {
         Snapshot::plain(alloc, edges)?
     } else {
         Snapshot::new(alloc, edges)?
@@ -111,7 +131,7 @@ pub(crate) fn deal(
     let mut rest = pass;
     let mut from = 0;
     for number in 0..count {
-        let to = from + (edges - from) / (count - number);
+        let to = slice_end(edges, from, count - number);
         let (kept, given) = table.split(rest, 1);
         rest = kept;
         let held = next_held(helds);
@@ -136,7 +156,7 @@ pub(crate) fn run_piece<C: Compose, G: Gate>(
     ensures { HasRun (C.algebra c.now) table.now piece result }
 {
     gate.pass(piece.number);
-    close_piece(
+    close_slice_with(
         table,
         &mut piece.pass,
         c,
@@ -150,7 +170,21 @@ pub(crate) fn run_piece<C: Compose, G: Gate>(
     piece
 }
 
-/// Joins the passes of the pieces to `home`, and keeps the snapshots and the copies, those of the last piece first.
+/// Keeps the snapshot of a slice, if that has edges.
+fn keep_snap(snaps: &mut Vec<Snapshot>, snap: Snapshot, from: u32, to: u32) -> Result<(), Memory>
+    ensures between { OnOk result ((low high : List ℕ) → All (IsBetween low high) snaps.old.items
+        → IsBetween low high snap → All (IsBetween low high) snaps.new.items) }
+    ensures each { OnOk result ((words : List ℕ) → All (λ s. s ≡ words) snaps.new.items
+        → All (λ s. s ≡ words) snaps.old.items × (from < to → snap ≡ words)) }
+{
+    if from >= to {
+        return Ok(());
+    }
+    snaps.push(snap).map_err(|_| Memory)
+}
+
+/// Joins the passes of the pieces to `home`, and keeps the snapshots of slices with edges and the copies, those of the
+/// last piece first.
 pub(crate) fn gather(
     alloc: Global,
     table: &OpenNet,
@@ -170,7 +204,7 @@ pub(crate) fn gather(
     ensures facts { IfOk result (λ r. r.0.actor.mine ≡ []) }
     ensures between { IfOk result (λ r. All (IsBetween r.0.actor.seen table.now.opening.words) r.1.items) }
     ensures each { IfOk result (λ r. (words : List ℕ) → All (λ s. s ≡ words) r.1.items
-        → All (λ piece. piece.snap ≡ words) pieces.items) }
+        → All (HasSeen words) pieces.items) }
     ensures held { IfOk result (λ _. AreHeld (algebra_of table.now.opening) helds.new.items) }
 {
     let mut snaps = Vec::new(alloc);
@@ -179,16 +213,14 @@ pub(crate) fn gather(
         let Piece {
             pass,
             snap,
-            from: _,
-            to: _,
+            from,
+            to,
             number: _,
             held,
             times: _,
         } = piece;
         all = table.join(all, pass);
-        let Ok(()) = snaps.push(snap) else {
-            return Err(Memory);
-        };
+        keep_snap(&mut snaps, snap, from, to)?;
         let Ok(()) = helds.push(held) else {
             return Err(Memory);
         };

@@ -1,11 +1,11 @@
 //! Closure by rounds. In each, the edges are dealt out among the workers, which narrow the words of one table at once.
 //!
 //! Why it is right: no step of a worker loses a closed network, and words only become less. A worker ends where what
-//! it has seen is closed at each edge of its slice; that may be old. But where all workers have seen just the words
-//! that the table was closed with, these are closed at each edge, and so they are the closure. Where a word is empty
-//! and there are three nodes or more, the closure has every set empty.
+//! it has seen is closed at each edge of its slice; that may be old. But where all workers whose slice has edges have
+//! seen just the words that the table was closed with, these are closed at each edge, and so they are the closure.
+//! Where a word is empty and there are three nodes or more, the closure has every set empty.
 //!
-//! Why it ends: if some worker has seen other words, then some word became less in this round, since what each has
+//! Why it ends: if one of them has seen other words, then some word became less in this round, since what each has
 //! seen lies between the words at the round's beginning and those at its end.
 
 ghost use Rattle.std.specs.Prelude.{◌≡◌, ℕ, ◌<◌, ◌≤◌, true, false, IfOk, OnOk, OnErr, List, length, sum, slice_index};
@@ -135,7 +135,8 @@ fn round<R: Threads + Sync, C: Compose + Sync, G: Gate + Sync>(
     Ok(have_all_seen(&snaps, net.words()))
 }
 
-/// Closes the network by rounds. If memory runs out the network may be between what it was and its closure.
+/// Closes the network by rounds, of which the first begins with the copies that are held. If memory runs out the network
+/// may be between what it was and its closure.
 fn close_by_rounds<R: Threads + Sync, C: Compose + Sync, G: Gate + Sync>(
     rt: &R,
     alloc: Global,
@@ -143,14 +144,15 @@ fn close_by_rounds<R: Threads + Sync, C: Compose + Sync, G: Gate + Sync>(
     c: &C,
     gate: &G,
     count: u32,
+    mut helds: Vec<Option<SliceCopy>>,
 ) -> Result<(), Memory>
     requires network { IsNetwork (C.algebra c.now) net.old.nodes net.old.words }
     requires some { 0 < count }
     requires few { count ≤ 64 }
+    requires held { AreHeld (C.algebra c.now) helds.items }
     ensures rest { net.new ≡ record net.old { words = net.new.words } }
     ensures closure { OnOk result (IsClosure (C.algebra c.now) net.old.nodes net.old.words net.new.words) }
 {
-    let mut helds = Vec::new(alloc);
     while !round(rt, alloc, net, c, gate, count, &mut helds)? {}
     Ok(())
 }
@@ -196,7 +198,32 @@ pub fn close_parallel<R: Threads + Sync, C: Compose + Sync, G: Gate + Sync>(
         return close_alone(alloc, net, c, gate);
     }
     let mut closed = net.copy()?;
-    close_by_rounds(rt, alloc, &mut closed, c, gate, count)?;
+    close_by_rounds(rt, alloc, &mut closed, c, gate, count, Vec::new(alloc))?;
     *net = closed;
     Ok(())
+}
+
+/// Closes the network as `close_parallel` does, by workers that begin with the copies that are held, that of the first
+/// slice last. Where a copy is for the worker's slice, only what is less in the network than in the copy is looked at:
+/// for one that began with a closed network, what became less since. Each worker in turn gets an equal part of the edges
+/// that are left, rounded down; one alone works on this thread. If memory runs out the network may be between what it
+/// was and its closure.
+pub fn close_held<R: Threads + Sync, C: Compose + Sync, G: Gate + Sync>(
+    rt: &R,
+    alloc: Global,
+    net: &mut Net,
+    c: &C,
+    workers: u32,
+    gate: &G,
+    helds: Vec<Option<SliceCopy>>,
+) -> Result<(), Memory>
+    requires network { IsNetwork (C.algebra c.now) net.old.nodes net.old.words }
+    requires some { 0 < workers }
+    requires few { workers ≤ 64 }
+    requires held { AreHeld (C.algebra c.now) helds.items }
+    ensures closure { OnOk result (IsClosure (C.algebra c.now) net.old.nodes net.old.words net.new.words) }
+    ensures rest { net.new ≡ record net.old { words = net.new.words } }
+{
+    let count = workers.min(net.edges()).max(1);
+    close_by_rounds(rt, alloc, net, c, gate, count, helds)
 }

@@ -195,38 +195,6 @@ fn narrow_again<C: Compose>(
     narrow_slice(table, pass, c, snap, from, to)
 }
 
-/// Closes the edges of a slice, from the number `from` up to but without `to`, on a copy, which is held for the next
-/// time. Before it ends it reads the words so many times.
-pub(crate) fn close_piece<C: Compose>(
-    table: &OpenNet,
-    pass: &mut Pass,
-    c: &C,
-    snap: &mut Snapshot,
-    held: &mut Option<SliceCopy>,
-    from: u32,
-    to: u32,
-    times: u32,
-)
-    requires pass { IsPassOf table.now pass.old }
-    requires calculus { C.algebra c.now ≡ algebra_of table.now.opening }
-    requires snap { length snap.old ≡ edge_count table.now.opening.nodes }
-    requires held { IsHeld (C.algebra c.now) held.old }
-    requires below { to ≤ edge_count table.now.opening.nodes }
-    ensures pass { IsPassOf table.now pass.new }
-    ensures reads { ReadsAll pass.old pass.new }
-    ensures snap { snap.new ≡ pass.new.actor.seen }
-    ensures held { IsHeld (C.algebra c.now) held.new }
-    ensures closed { IsSliceClosed (C.algebra c.now) table.now.opening.nodes snap.new from to }
-{
-    table.refresh(pass, snap);
-    if close_on_copy(table, pass, c, snap, held, from, to, times) {
-        return;
-    }
-    while narrow_again(table, pass, c, snap, from, to) {
-        table.refresh_again(pass, snap);
-    }
-}
-
 /// Closes the edges of a slice, from the number `from` up to but without `to`: narrows them until what the pass has
 /// seen is closed at each of them, or has an empty set while there are three or more nodes. The snapshot is then
 /// what the pass has seen. Takes no memory and waits for nothing.
@@ -249,8 +217,41 @@ pub fn close_slice<C: Compose>(
     ensures closed { IsSliceClosed (C.algebra c.now) table.now.opening.nodes snap.new from to }
 {
     let mut held = None;
-    close_piece(table, pass, c, snap, &mut held, from, to, 1);
+    close_slice_with(table, pass, c, snap, &mut held, from, to, 1);
     if let Some(copy) = held {
         snap.put_copy(copy);
+    }
+}
+
+/// Closes the edges of a slice as `close_slice` does, on the copy that is held, or on the snapshot's own where none is. If
+/// the copy tells in the end that the slice is closed, it is held for the next time. Before it ends it reads the words
+/// so many times more: where nobody else narrows them, none is needed.
+pub fn close_slice_with<C: Compose>(
+    table: &OpenNet,
+    pass: &mut Pass,
+    c: &C,
+    snap: &mut Snapshot,
+    held: &mut Option<SliceCopy>,
+    from: u32,
+    to: u32,
+    times: u32,
+)
+    requires pass { IsPassOf table.now pass.old }
+    requires calculus { C.algebra c.now ≡ algebra_of table.now.opening }
+    requires snap { length snap.old ≡ edge_count table.now.opening.nodes }
+    requires held { IsHeld (C.algebra c.now) held.old }
+    requires below { to ≤ edge_count table.now.opening.nodes }
+    ensures pass { IsPassOf table.now pass.new }
+    ensures reads { ReadsAll pass.old pass.new }
+    ensures snap { snap.new ≡ pass.new.actor.seen }
+    ensures held { IsHeld (C.algebra c.now) held.new }
+    ensures closed { IsSliceClosed (C.algebra c.now) table.now.opening.nodes snap.new from to }
+{
+    table.refresh(pass, snap);
+    if from >= to || close_on_copy(table, pass, c, snap, held, from, to, times) {
+        return;
+    }
+    while narrow_again(table, pass, c, snap, from, to) {
+        table.refresh_again(pass, snap);
     }
 }

@@ -182,6 +182,14 @@ fn closes_points_as_on_one_thread(rt: HostRuntime) -> Result<(), Fail> {
     assert_larger(&rt, rt.alloc(), &c, 1, 1)
 }
 
+#[test]
+fn many_edges_are_shared_out(rt: HostRuntime) -> Result<(), Fail> {
+    let c = rcc8(rt.alloc())?;
+    // the least number of nodes whose edges are dealt out to all workers
+    let net = chain(&rt, rt.alloc(), &c, 182, 24)?;
+    assert_same(&rt, rt.alloc(), &c, &net)
+}
+
 /// What a pass has seen when it has closed two slices of a network, and then all edges.
 fn seen_closed<C: Compose>(alloc: Global, c: &C, net: &Net) -> Option<Snapshot>
     requires { IsNetwork (C.algebra c.now) net.now.nodes net.now.words }

@@ -23,7 +23,7 @@ fn nodes_with(edges: u32) -> Option<u32>
 }
 
 /// The words of all edges as a pass has seen them, in edge order. Beside them it has room for a copy on which a pass
-/// may close a slice of the edges, if they are those of eight or more nodes.
+/// may close a slice of the edges, if they are those of `COPIED` nodes or more.
 #[derive(Debug, Drop)]
 pub struct Snapshot {
     pub(crate) words: Vec<u64>,

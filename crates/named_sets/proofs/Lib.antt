@@ -1,3 +1,4 @@
 pub mod ReadSets
 pub mod WrittenSets
 pub mod KeptLines
+pub mod Keys

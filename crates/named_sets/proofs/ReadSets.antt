@@ -19,9 +19,13 @@ use Rattle.qsr_lex.proofs.Found.{IfSome-and_then}
 use Rattle.qsr_lex.specs.Lexemes.{Lexeme, lexeme_with}
 use Rattle.qsr_lex.specs.LineTokens.{names_until_close, names_at}
 use Rattle.qsr_lex.specs.declared.tokens.TokenKind.TheVariants.{Word}
-use Rattle.named_sets.specs.Named.{set_from, set_of, set_at, with_member, name_of, members_below}
+use Rattle.named_sets.specs.Named.{set_from, set_of, set_at, name_of, members_below}
 
 -- ---- one name after another
+
+-- a set and one member more, where both are known
+abbrev pub with_member : Option ℕ → Option ℕ → Option ℕ
+with_member set base = option_and_then (λ a. option_map (λ r. bit_or a (2 ^ r)) base) set
 
 -- the names up to a closing bracket as further members of a set
 abbrev pub with_members : List (List ℕ) → Option ℕ → Option (List (List ℕ) × List Lexeme) → Option (Option ℕ × List Lexeme)
@@ -50,11 +54,6 @@ pub set-within : (n set r : ℕ) → IsWithin set (2 ^ n - 1) → r < n → IsWi
 set-within n set r h below =
     let m : Algebra = record { size = n; identity = 0; converses = []; table = [] } in
     IsWithin-union set (2 ^ r) (2 ^ n - 1) h (single-within r (2 ^ n - 1) (Has-full m r below))
-
-pub with_member-within : (n : ℕ) (set base : Option ℕ) → IfSome set (λ a. IsWithin a (2 ^ n - 1)) → IfSome base (λ r. r < n) → IfSome (with_member set base) (λ a. IsWithin a (2 ^ n - 1))
-with_member-within n None base h k = tt
-with_member-within n (Some a) None h k = tt
-with_member-within n (Some a) (Some r) h k = set-within n a r h k
 
 -- ---- words that are names
 

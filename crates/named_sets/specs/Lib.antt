@@ -1,3 +1,4 @@
 pub mod Named
 pub mod Written
 pub mod Kept
+pub mod Keys

@@ -5,6 +5,7 @@ use Rattle.std.specs.List.{list_all}
 use Rattle.calculus_table.specs.Names.{place_of}
 use Rattle.calculus_table.specs.Calculus.{AreDistinct}
 use Rattle.calculus_table.specs.declared.TheConstants.{MAX_BASES}
+use Rattle.named_sets.specs.Keys.{AreKeys}
 use Rattle.qsr_lex.specs.Names.{is_name}
 use Rattle.qsr_lex.specs.Lexemes.{Lexeme}
 use Rattle.qsr_lex.specs.LineTokens.{names_at}
@@ -18,18 +19,16 @@ set_from bases set (name ∷ names) = option_and_then (λ r. set_from bases (bit
 abbrev pub set_of : List (List ℕ) → List (List ℕ) → Option ℕ
 set_of bases names = set_from bases 0 names
 
--- a set and one member more, where both are known
-abbrev pub with_member : Option ℕ → Option ℕ → Option ℕ
-with_member set base = option_and_then (λ a. option_map (λ r. bit_or a (2 ^ r)) base) set
-
 -- names in brackets at the front: the set of the base relations with these names, and what stands after them
 abbrev pub set_at : List (List ℕ) → List Lexeme → Option (Option ℕ × List Lexeme)
 set_at bases tokens = option_map (λ found. (set_of bases found.0, found.1)) (names_at tokens)
 
--- the names of base relations: not too many, no two the same, and where it is said so, names that may stand in a file
-pub record AreBaseNames (bases : List (List ℕ)) (are_names : Bool) : Type 0 where
+-- the names of base relations: not too many, no two the same, with their keys, and where it is said so, names that may
+-- stand in a file
+pub record AreBaseNames (bases : List (List ℕ)) (keys : List ℕ) (are_names : Bool) : Type 0 where
   pub few : length bases ≤ MAX_BASES
   pub distinct : AreDistinct bases
+  pub keyed : AreKeys bases keys
   pub names : are_names ≡ true → list_all is_name bases ≡ true
 
 -- the name stands at this place

@@ -1,28 +1,32 @@
 -- From the answer of a command to what a run leaves in its sink.
-use Rattle.std.proofs.Common.{◌≡◌, ℕ, List, [], Option, None, Some, Result, Ok, Err, refl, sym, ap, subst, ◌⊎◌, inl, inr, arith}
+use Rattle.std.proofs.Common.{◌≡◌, ◌≤◌, ℕ, false, List, [], Option, None, Some, Result, Ok, Err, refl, sym, ap, subst, inl, inr, arith}
 use Rattle.std.specs.String.{string_bytes}
-use Rattle.std.specs.Io.KnownBytes.{Appends}
+use Rattle.std.specs.Prelude.{MatchResult}
+use Rattle.std.specs.Io.KnownBytes.{Appends, Keeps}
 use Rattle.std.proofs.KnownBytes.{Appends-nil, Keeps-refl}
+use Rattle.std.proofs.lemmas.Bool.{false≢true}
 use Rattle.qsr_outside.specs.Documents.{Documents}
 use Rattle.qsr_outside.specs.Reading.{IsTooLongOrMemory as IsTooLongRead}
+use Rattle.qsr_outside.specs.Counts.{Rose}
 use Rattle.qsr_outside.specs.Writing.{AppendsPart}
 use Rattle.qsr_outside.specs.declared.reading.ReadStop.{ReadStop}
 use Rattle.qsr_outside.specs.declared.reading.ReadStop.TheVariants as read
-use Rattle.qsr_words.specs.Asked.{Asked, close, solve, check, trace, relate, demo}
+use Rattle.qsr_words.specs.Asked.{Asked, close, solve, check, trace, relate, serve, demo}
 use Rattle.qsr_top.specs.Stops.{IsTooLongStop}
 use Rattle.qsr_top.specs.Output.{Output}
 use Rattle.qsr_top.specs.Texts.{usage_text}
-use Rattle.qsr_top.specs.Told.{WhereTold, SourceWaits, told_documents, told_source}
-use Rattle.qsr_top.specs.Ends.{MayEnd, IsAnswered, end_of_stop}
-use Rattle.qsr_top.specs.SinkAfter.{LeavesInSink, LeavesByStatus, IsWritten, IsTextOf}
+use Rattle.qsr_top.specs.Told.{WhereTold, SourceWaits, told_documents, told_source, is_served}
+use Rattle.qsr_top.specs.Ends.{MayEnd, IsAnswered, IsUsageEnd, IsLongEnd, end_of_stop}
+use Rattle.qsr_top.specs.SinkAfter.{LeavesInSink, LeavesByStatus, LeavesAtReadFault, LeavesAtWriteFault, LeavesOutOfMemory, WritesPart, IsWritten, IsTextOf}
 use Rattle.qsr_top.specs.Answers.{Answers, AnswersWords, OutputOfStop}
-use Rattle.qsr_top.specs.Spoken.{IsSpoken}
+use Rattle.qsr_top.specs.Spoken.{IsSpoken, IsWriting, Tells}
+use Rattle.qsr_top.specs.Runs.{Runs}
 use Rattle.qsr_top.specs.declared.answers.Answer.{Answer}
 use Rattle.qsr_top.specs.declared.stops.Stop.{Stop}
 use Rattle.qsr_top.specs.declared.stops.Stop.TheVariants as stop
 use Rattle.qsr_top.specs.declared.statuses.Place.{Place}
 use Rattle.qsr_top.specs.declared.statuses.Status.{Status}
-use Rattle.qsr_top.specs.declared.statuses.Status.TheVariants.{Done, No, Usage, Refused, WriteFault, Memory, Budget, NotAccepted, TooLong}
+use Rattle.qsr_top.specs.declared.statuses.Status.TheVariants.{Done, No, Usage, Refused, ReadFault, WriteFault, Memory, Budget, NotAccepted, TooLong}
 use Rattle.qsr_top.proofs.Naming.{IfSome-weaker, told_all}
 use Rattle.qsr_top.proofs.Commands.{waits_same, memory_may_end}
 
@@ -116,7 +120,7 @@ module _ {F S : Type 0} (documents : F → Option Documents) (faults given absen
     no_line number place e is h = subst (λ x. AnswersThem (Some asked) (Err x)) (sym is)
         (unspoken (stop.Refused number place) read.Memory h (memory_may_end asked) (λ i. absurd cc) (λ i. absurd cc) (λ i. absurd cc) (λ i. absurd i))
 
-    spoken : (r : Result Answer Stop) (x : Result Answer ReadStop) → IsSpoken r x → AnswersIt r → AnswersThem (Some asked) x
+    pub spoken : (r : Result Answer Stop) (x : Result Answer ReadStop) → IsSpoken r x → AnswersIt r → AnswersThem (Some asked) x
     spoken (Ok x) r is h = subst (AnswersThem (Some asked)) (sym is) (spoken_ok x h)
     spoken (Err (stop.Refused number place)) (Ok x) is h = spoken_line number place x is h
     spoken (Err (stop.Refused number place)) (Err e) is h = no_line number place e is h
@@ -126,10 +130,6 @@ module _ {F S : Type 0} (documents : F → Option Documents) (faults given absen
         (unspoken stop.ReadFault read.ReadFault h h.may_end (λ i. absurd cc) (λ i. refl) (λ i. refl) (λ i. i))
     spoken (Err stop.Memory) r is h = subst (AnswersThem (Some asked)) (sym is)
         (unspoken stop.Memory read.Memory h h.may_end (λ i. absurd cc) (λ i. absurd cc) (λ i. absurd cc) (λ i. tt))
-
-    -- the answer to words that ask for it
-    pub spoken_for : (words : Option Asked) (r : Result Answer Stop) (x : Result Answer ReadStop) → Some asked ≡ words → AnswersIt r → IsSpoken r x → AnswersThem words x
-    spoken_for words r x e h is = subst (λ k. AnswersThem k x) e (spoken r x is h)
 
 -- nothing was read
 module _ {F S : Type 0} (documents : F → Option Documents) (faults given absent : F → ℕ) (left : S → Option (List ℕ)) (source_faults source_given : S → ℕ)
@@ -188,63 +188,286 @@ module _ {F S : Type 0} (documents : F → Option Documents) (faults given absen
 
 -- ---- writing
 
-whole_answer : (asked : Option Asked) (d : Documents) (b : List ℕ) (old new : Option (List ℕ)) (text : List ℕ) (status : Status) → IsTextOf text status → Appends old new text →
-    Output asked d b text status → LeavesInSink asked d b old new status
-whole_answer asked d b old new text Done w a o = record { text = text; appended = a; output = o }
-whole_answer asked d b old new text No w a o = record { text = text; appended = a; output = o }
-whole_answer asked d b old new text Budget w a o = record { text = text; appended = a; output = o }
-whole_answer asked d b old new text Usage w a o = record { text = text; appended = a; output = o }
-whole_answer asked d b old new text (Refused number place) w a o = record { text = text; appended = a; output = o }
-whole_answer asked d b old new text (NotAccepted number place) w a o = record { text = text; appended = a; output = o }
-whole_answer asked d b old new text _ w a o = absurd w
+-- nothing is written, and a part, by a command that writes its answer whole
+unserved_fault : (asked : Option Asked) (d : Documents) (b : List ℕ) (left old new : Option (List ℕ)) → is_served asked ≡ false → Keeps old new → LeavesAtReadFault asked d b left old new
+unserved_fault None d b left old new whole k = k
+unserved_fault (Some (close a)) d b left old new whole k = k
+unserved_fault (Some (solve a)) d b left old new whole k = k
+unserved_fault (Some (check a)) d b left old new whole k = k
+unserved_fault (Some (trace a)) d b left old new whole k = k
+unserved_fault (Some (relate a)) d b left old new whole k = k
+unserved_fault (Some (serve a)) d b left old new whole k = absurd (false≢true (sym whole))
+unserved_fault (Some (demo a)) d b left old new whole k = k
 
-text_by_status : (old new : Option (List ℕ)) (text : List ℕ) (status : Status) → IsTextOf text status → Appends old new text → LeavesByStatus old new status
-text_by_status old new text Done w a = tt
-text_by_status old new text No w a = tt
-text_by_status old new text Budget w a = tt
-text_by_status old new text Usage w a = subst (Appends old new) w a
-text_by_status old new text (Refused number place) w a = subst (Appends old new) w a
-text_by_status old new text (NotAccepted number place) w a = subst (Appends old new) w a
-text_by_status old new text _ w a = absurd w
+pub kept_memory : (asked : Option Asked) (d : Documents) (b : List ℕ) (old new : Option (List ℕ)) → Keeps old new → LeavesOutOfMemory asked d b old new
+kept_memory None d b old new k = k
+kept_memory (Some (close a)) d b old new k = k
+kept_memory (Some (solve a)) d b old new k = k
+kept_memory (Some (check a)) d b old new k = k
+kept_memory (Some (trace a)) d b old new k = k
+kept_memory (Some (relate a)) d b old new k = k
+kept_memory (Some (serve a)) d b old new k = inl k
+kept_memory (Some (demo a)) d b old new k = k
 
--- what writing an answer does: it is written whole, or the sink fails
-abbrev IsWriting : Option (List ℕ) → Option (List ℕ) → List ℕ → Status → Status → Type 0 → Type 0 → Type 0
-IsWriting old new text status result Same R = ((result ≡ status) × Appends old new text × Same) ⊎ ((result ≡ WriteFault) × AppendsPart old new text × R)
+part_at_fault : (asked : Option Asked) (d : Documents) (b : List ℕ) (left old new : Option (List ℕ)) → WritesPart asked d b old new → LeavesAtWriteFault asked d b left old new
+part_at_fault None d b left old new w = w
+part_at_fault (Some (close a)) d b left old new w = w
+part_at_fault (Some (solve a)) d b left old new w = w
+part_at_fault (Some (check a)) d b left old new w = w
+part_at_fault (Some (trace a)) d b left old new w = w
+part_at_fault (Some (relate a)) d b left old new w = w
+part_at_fault (Some (serve a)) d b left old new w = inl w
+part_at_fault (Some (demo a)) d b left old new w = w
 
-module _ (asked : Option Asked) (old new : Option (List ℕ)) (text : List ℕ) (status result : Status) (Same R : Type 0) (w : IsWritten asked text status) (h : IsWriting old new text status result Same R) where
-  pub written_answer : (documents : Option Documents) (left : Option (List ℕ)) → WhereTold asked documents left (λ d b. Output asked d b text status) →
-      WhereTold asked documents left (λ d b. LeavesInSink asked d b old new result)
-  written_answer documents left o = elim h [
-    | inl all ↦ WhereTold-weaker asked documents left _ _ (λ d b out. subst (LeavesInSink asked d b old new) (sym all.0) (whole_answer asked d b old new text status w.is_text all.1 out)) o
-    | inr part ↦ WhereTold-weaker asked documents left _ _ (λ d b out. subst (LeavesInSink asked d b old new) (sym part.0) (record { text = text; status = status; appended = part.1; output = out })) o
-  ]
+whole_answer : (asked : Option Asked) (d : Documents) (b : List ℕ) (left old new : Option (List ℕ)) (text : List ℕ) (status : Status) → IsTextOf text status → Appends old new text →
+    Output asked d b text status → LeavesInSink asked d b left old new status
+whole_answer asked d b left old new text Done w a o = record { text = text; appended = a; output = o }
+whole_answer asked d b left old new text No w a o = record { text = text; appended = a; output = o }
+whole_answer asked d b left old new text Budget w a o = record { text = text; appended = a; output = o }
+whole_answer asked d b left old new text Usage w a o = record { text = text; appended = a; output = o }
+whole_answer asked d b left old new text (Refused number place) w a o = record { text = text; appended = a; output = o }
+whole_answer asked d b left old new text (NotAccepted number place) w a o = record { text = text; appended = a; output = o }
+whole_answer asked d b left old new text _ w a o = absurd w
 
-  pub written_by_status : LeavesByStatus old new result
-  written_by_status = elim h [
-    | inl all ↦ subst (LeavesByStatus old new) (sym all.0) (text_by_status old new text status w.is_text all.1)
-    | inr part ↦ subst (LeavesByStatus old new) (sym part.0) tt
-  ]
+text_by_status : (asked : Option Asked) (old new : Option (List ℕ)) (text : List ℕ) (status : Status) → IsTextOf text status → Appends old new text → LeavesByStatus asked old new status
+text_by_status asked old new text Done w a = tt
+text_by_status asked old new text No w a = tt
+text_by_status asked old new text Budget w a = tt
+text_by_status asked old new text Usage w a = subst (Appends old new) w a
+text_by_status asked old new text (Refused number place) w a = subst (Appends old new) w a
+text_by_status asked old new text (NotAccepted number place) w a = subst (Appends old new) w a
+text_by_status asked old new text _ w a = absurd w
 
-  pub written_end : MayEnd asked result
-  written_end = elim h [
-    | inl all ↦ subst (MayEnd asked) (sym all.0) w.may_end
-    | inr part ↦ subst (MayEnd asked) (sym part.0) (fault_end asked)
-  ]
-    where
-      fault_end : (k : Option Asked) → MayEnd k WriteFault
-      fault_end None = tt
-      fault_end (Some (close a)) = tt
-      fault_end (Some (solve a)) = tt
-      fault_end (Some (check a)) = tt
-      fault_end (Some (trace a)) = tt
-      fault_end (Some (relate a)) = tt
-      fault_end (Some (demo a)) = tt
+-- an answer that is written has one of its own ends
+no_stop : (text : List ℕ) (status end : Status) → IsTextOf text status → status ≡ end → (IsTextOf text end → ⊥) → ⊥
+no_stop text status end w e f = f (subst (IsTextOf text) e w)
+
+-- words that ask for nothing have the text of usage
+usage_alone : (text : List ℕ) (status : Status) → IsUsageEnd status → IsTextOf text status → text ≡ usage_text
+usage_alone text Usage m w = w
+usage_alone text WriteFault m w = absurd w
+usage_alone text Memory m w = absurd w
+usage_alone text _ m w = absurd m
+
+pub fault_end : (asked : Option Asked) → MayEnd asked WriteFault
+fault_end None = tt
+fault_end (Some (close a)) = tt
+fault_end (Some (solve a)) = tt
+fault_end (Some (check a)) = tt
+fault_end (Some (trace a)) = tt
+fault_end (Some (relate a)) = tt
+fault_end (Some (serve a)) = tt
+fault_end (Some (demo a)) = tt
+
+-- ---- a run, from its answer
+
+module _ {F S W : Type 0} (documents : F → Option Documents) (faults given absent : F → ℕ) (left : S → Option (List ℕ)) (source_faults source_given : S → ℕ)
+    (held : W → Option (List ℕ)) (sink_faults : W → ℕ) (asked : Option Asked) (old new : F) (s t : S) (k l : W) where
+  abbrev RunsTo : Status → Type 0
+  RunsTo r = Runs documents faults given absent left source_faults source_given held sink_faults asked old new s t k l r
+
+  abbrev AnswersBy : Result Answer ReadStop → Type 0
+  AnswersBy x = AnswersWords documents faults given absent left source_faults source_given asked old new s t x
+
+  module _ (a : Answer) (h : AnswersBy (Ok a)) (never_fall : sink_faults k ≤ sink_faults l) where
+    abbrev Leaves : Status → Type 0
+    Leaves r = WhereTold asked (documents old) (left s) (λ d b. LeavesInSink asked d b (left t) (held k) (held l) r)
+
+    same_faults : (faults new ≡ faults old) × (source_faults t ≡ source_faults s)
+    same_faults = elim h.faults_are_told [ inl e ↦ absurd cc | inr same ↦ same ]
+
+    -- it is written whole
+    written_runs : Appends (held k) (held l) (string_bytes a.text) → sink_faults l ≡ sink_faults k → RunsTo a.status
+    written_runs appended same = record {
+      output = WhereTold-weaker asked (documents old) (left s) _ _ (λ d b out.
+          whole_answer asked d b (left t) (held k) (held l) (string_bytes a.text) a.status h.written.is_text appended out) h.output;
+      by_status = text_by_status asked (held k) (held l) (string_bytes a.text) a.status h.written.is_text appended;
+      usage_part = λ none e. absurd (no_stop (string_bytes a.text) a.status WriteFault h.written.is_text e (λ w. w));
+      status = h.written.may_end;
+      read_fault = λ e. absurd (no_stop (string_bytes a.text) a.status ReadFault h.written.is_text e (λ w. w));
+      write_fault = λ e. absurd (no_stop (string_bytes a.text) a.status WriteFault h.written.is_text e (λ w. w));
+      read_faults_are_told = inr same_faults;
+      write_faults_are_told = inr same;
+      too_long = λ e. absurd (no_stop (string_bytes a.text) a.status TooLong h.written.is_text e (λ w. w));
+      above = λ more. absurd (h.above more);
+      source_waits = h.source_waits;
+      shelf_stays = h.none_stays;
+      ends = h.ends;
+      documents_stay = h.documents_stay;
+      absent_openings_stay = h.absent_openings_stay;
+      shelf_faults = h.faults_never_fall;
+      faults_of_source = h.source_faults_never_fall;
+      faults_of_sink = never_fall;
+    }
+
+    -- the sink fails
+    failed_runs : AppendsPart (held k) (held l) (string_bytes a.text) → Rose (sink_faults k) (sink_faults l) → RunsTo WriteFault
+    failed_runs part rose = record {
+      output = WhereTold-weaker asked (documents old) (left s) _ _ (λ d b out. part_at_fault asked d b (left t) (held k) (held l)
+          (record { text = string_bytes a.text; status = a.status; appended = part; output = out })) h.output;
+      by_status = tt;
+      usage_part = λ none e. subst (AppendsPart (held k) (held l))
+          (usage_alone (string_bytes a.text) a.status (subst (λ w. MayEnd w a.status) none h.written.may_end) h.written.is_text) part;
+      status = fault_end asked;
+      read_fault = λ e. absurd cc;
+      write_fault = λ e. rose;
+      read_faults_are_told = inr same_faults;
+      write_faults_are_told = inl refl;
+      too_long = λ e. absurd cc;
+      above = λ more. absurd (h.above more);
+      source_waits = h.source_waits;
+      shelf_stays = h.none_stays;
+      ends = λ is. absurd is;
+      documents_stay = h.documents_stay;
+      absent_openings_stay = h.absent_openings_stay;
+      shelf_faults = h.faults_never_fall;
+      faults_of_source = h.source_faults_never_fall;
+      faults_of_sink = never_fall;
+    }
+
+    pub answer_runs : (r : Status) → IsWriting held sink_faults (string_bytes a.text) a.status k l r → RunsTo r
+    answer_runs r w = elim w [
+      | inl all ↦ subst RunsTo (sym all.0) (written_runs all.1 all.2)
+      | inr part ↦ subst RunsTo (sym part.0) (failed_runs part.1 part.2)
+    ]
 
 -- ---- a run whose input was not read to its end
 
-pub stopped_answer : (asked : Option Asked) (documents : Option Documents) (left held : Option (List ℕ)) (s : ReadStop) →
-    (s ≡ read.TooLong → WhereTold asked documents left (λ d b. Output asked d b [] TooLong)) → WhereTold asked documents left (λ d b. LeavesInSink asked d b held held (end_of_stop s))
-stopped_answer asked documents left held read.ReadFault long = WhereTold-always asked documents left _ (λ d b. Keeps-refl held)
-stopped_answer asked documents left held read.Memory long = WhereTold-always asked documents left _ (λ d b. Keeps-refl held)
-stopped_answer asked documents left held read.TooLong long =
-    WhereTold-weaker asked documents left _ _ (λ d b out. record { text = []; appended = Appends-nil held; output = out }) (long refl)
+module _ {F S W : Type 0} (documents : F → Option Documents) (faults given absent : F → ℕ) (left : S → Option (List ℕ)) (source_faults source_given : S → ℕ)
+    (held : W → Option (List ℕ)) (sink_faults : W → ℕ) (asked : Option Asked) (old new : F) (s t : S) (k : W) where
+  abbrev StopsBy : ReadStop → Type 0
+  StopsBy e = AnswersWords documents faults given absent left source_faults source_given asked old new s t (Err e)
+
+  -- what a fault of reading leaves
+  abbrev IsQuiet : Type 0
+  IsQuiet = WhereTold asked (documents old) (left s) (λ d b. LeavesAtReadFault asked d b (left t) (held k) (held k))
+
+  stopped_output : (e : ReadStop) → IsQuiet → (e ≡ read.TooLong → WhereTold asked (documents old) (left s) (λ d b. Output asked d b [] TooLong)) →
+      WhereTold asked (documents old) (left s) (λ d b. LeavesInSink asked d b (left t) (held k) (held k) (end_of_stop e))
+  stopped_output read.ReadFault quiet long = quiet
+  stopped_output read.Memory quiet long = WhereTold-always asked (documents old) (left s) _ (λ d b. kept_memory asked d b (held k) (held k) (Keeps-refl (held k)))
+  stopped_output read.TooLong quiet long =
+      WhereTold-weaker asked (documents old) (left s) _ _ (λ d b out. record { text = []; appended = Appends-nil (held k); output = out }) (long refl)
+
+  stopped_by_status : (e : ReadStop) → LeavesByStatus asked (held k) (held k) (end_of_stop e)
+  stopped_by_status read.ReadFault = λ whole. Keeps-refl (held k)
+  stopped_by_status read.Memory = λ whole. Keeps-refl (held k)
+  stopped_by_status read.TooLong = λ whole. Keeps-refl (held k)
+
+  is_no_write_fault : (e : ReadStop) → end_of_stop e ≡ WriteFault → ⊥
+  is_no_write_fault read.ReadFault i = cc
+  is_no_write_fault read.Memory i = cc
+  is_no_write_fault read.TooLong i = cc
+
+  is_no_answer : (e : ReadStop) → IsAnswered (end_of_stop e) → ⊥
+  is_no_answer read.ReadFault i = i
+  is_no_answer read.Memory i = i
+  is_no_answer read.TooLong i = i
+
+  is_read_fault : (e : ReadStop) → end_of_stop e ≡ ReadFault → e ≡ read.ReadFault
+  is_read_fault read.ReadFault i = refl
+  is_read_fault read.Memory i = absurd cc
+  is_read_fault read.TooLong i = absurd cc
+
+  is_too_long : (e : ReadStop) → end_of_stop e ≡ TooLong → e ≡ read.TooLong
+  is_too_long read.ReadFault i = absurd cc
+  is_too_long read.Memory i = absurd cc
+  is_too_long read.TooLong i = refl
+
+  long_end : (e : ReadStop) → IsTooLongRead {T = Answer} (Err e) → IsLongEnd (end_of_stop e) asked
+  long_end read.ReadFault i = absurd i
+  long_end read.Memory i = tt
+  long_end read.TooLong i = tt
+
+  pub stop_runs : (e : ReadStop) → IsQuiet → StopsBy e → Runs documents faults given absent left source_faults source_given held sink_faults asked old new s t k k (end_of_stop e)
+  stop_runs e quiet h = record {
+    output = stopped_output e quiet (λ i. h.long_output (ap Err i));
+    by_status = stopped_by_status e;
+    usage_part = λ none i. absurd (is_no_write_fault e i);
+    status = h.may_end;
+    read_fault = λ i. h.read_fault (ap Err (is_read_fault e i));
+    write_fault = λ i. absurd (is_no_write_fault e i);
+    read_faults_are_told = elim h.faults_are_told [ inl i ↦ inl (ap end_of_stop {x = e} {y = read.ReadFault} cc) | inr same ↦ inr same ];
+    write_faults_are_told = inr refl;
+    too_long = λ i. h.too_long (ap Err (is_too_long e i));
+    above = λ more. long_end e (h.above more);
+    source_waits = h.source_waits;
+    shelf_stays = h.none_stays;
+    ends = λ is. absurd (is_no_answer e is);
+    documents_stay = h.documents_stay;
+    absent_openings_stay = h.absent_openings_stay;
+    shelf_faults = h.faults_never_fall;
+    faults_of_source = h.source_faults_never_fall;
+    faults_of_sink = omega arith;
+  }
+
+-- ---- a run, from what writing its answer does
+
+module _ {F S W : Type 0} (documents : F → Option Documents) (faults given absent : F → ℕ) (left : S → Option (List ℕ)) (source_faults source_given : S → ℕ)
+    (held : W → Option (List ℕ)) (sink_faults : W → ℕ) (old new : F) (s t : S) (k l : W) where
+  abbrev RunsFor : Option Asked → Status → Type 0
+  RunsFor asked r = Runs documents faults given absent left source_faults source_given held sink_faults asked old new s t k l r
+
+  abbrev IsQuietRun : Option Asked → Type 0
+  IsQuietRun asked = WhereTold asked (documents old) (left s) (λ d b. LeavesAtReadFault asked d b (left t) (held k) (held k))
+
+  quiet_whole : (asked : Option Asked) → is_served asked ≡ false → IsQuietRun asked
+  quiet_whole asked whole = WhereTold-always asked (documents old) (left s) _ (λ d b. unserved_fault asked d b (left t) (held k) (held k) whole (Keeps-refl (held k)))
+
+  pub words_run : (asked : Option Asked) (x : Result Answer ReadStop) (r : Status) → IsQuietRun asked → sink_faults k ≤ sink_faults l →
+      AnswersWords documents faults given absent left source_faults source_given asked old new s t x →
+      MatchResult x (λ a. IsWriting held sink_faults (string_bytes a.text) a.status k l r) (λ e. (r ≡ end_of_stop e) × (l ≡ k)) → RunsFor asked r
+  words_run asked (Ok a) r quiet fall h w = answer_runs documents faults given absent left source_faults source_given held sink_faults asked old new s t k l a h fall r w
+  words_run asked (Err e) r quiet fall h w =
+      subst (λ j. Runs documents faults given absent left source_faults source_given held sink_faults asked old new s t k j r) (sym w.1)
+      (subst (λ i. Runs documents faults given absent left source_faults source_given held sink_faults asked old new s t k k i) (sym w.0)
+      (stop_runs documents faults given absent left source_faults source_given held sink_faults asked old new s t k e quiet h))
+
+  -- the run of words that ask for a command
+  pub command_runs : (asked : Asked) (words : Option Asked) (x : Result Answer Stop) (r : Status) → is_served (Some asked) ≡ false → Some asked ≡ words →
+      Answers documents faults given absent left source_faults source_given asked old new s t x → Tells held sink_faults x k l r → RunsFor words r
+  command_runs asked words x r whole e h w = subst (λ i. RunsFor i r) e
+      (words_run (Some asked) w.spoken r (quiet_whole (Some asked) whole) w.faults_never_fall
+      (spoken documents faults given absent left source_faults source_given old new s t asked x w.spoken w.is_spoken h) w.writes)
+
+-- the run of words that ask for nothing
+module _ {F S W : Type 0} (documents : F → Option Documents) (faults given absent : F → ℕ) (left : S → Option (List ℕ)) (source_faults source_given : S → ℕ)
+    (held : W → Option (List ℕ)) (sink_faults : W → ℕ) (old : F) (s : S) where
+  pub memory_runs : (asked : Option Asked) (k : W) → Runs documents faults given absent left source_faults source_given held sink_faults asked old old s s k k Memory
+  memory_runs asked k =
+      let stop = memory_answers documents faults given absent left source_faults source_given old s asked in
+      record {
+        output = WhereTold-always asked (documents old) (left s) _ (λ d b. kept_memory asked d b (held k) (held k) (Keeps-refl (held k)));
+        by_status = λ whole. Keeps-refl (held k);
+        usage_part = λ none e. absurd cc;
+        status = stop.may_end;
+        read_fault = λ e. absurd cc;
+        write_fault = λ e. absurd cc;
+        read_faults_are_told = inr (refl, refl);
+        write_faults_are_told = inr refl;
+        too_long = λ e. absurd cc;
+        above = λ more. tt;
+        source_waits = stop.source_waits;
+        shelf_stays = λ none. refl;
+        ends = λ is. absurd is;
+        documents_stay = refl;
+        absent_openings_stay = λ there. refl;
+        shelf_faults = omega arith;
+        faults_of_source = omega arith;
+        faults_of_sink = omega arith;
+      }
+
+  module _ (k l : W) (r : Status) where
+    usage_words : (x : Result Answer Stop) (y : Result Answer ReadStop) → IsSpoken x y → MatchResult x (λ a. (a.status ≡ Usage) × (string_bytes a.text ≡ usage_text)) (λ e. e ≡ stop.Memory) →
+        AnswersWords documents faults given absent left source_faults source_given None old old s s y
+    usage_words (Ok a) y is u = subst (AnswersWords documents faults given absent left source_faults source_given None old old s s) (sym is)
+        (usage_answers documents faults given absent left source_faults source_given old s None a refl u.0 u.1)
+    usage_words (Err e) y is u = subst (AnswersWords documents faults given absent left source_faults source_given None old old s s) (sym (subst (λ i. IsSpoken (Err i) y) u is))
+        (memory_answers documents faults given absent left source_faults source_given old s None)
+
+    pub usage_runs : (words : Option Asked) (x : Result Answer Stop) → None ≡ words →
+        MatchResult x (λ a. (a.status ≡ Usage) × (string_bytes a.text ≡ usage_text)) (λ e. e ≡ stop.Memory) → Tells held sink_faults x k l r →
+        Runs documents faults given absent left source_faults source_given held sink_faults words old old s s k l r
+    usage_runs words x e u w = subst (λ i. Runs documents faults given absent left source_faults source_given held sink_faults i old old s s k l r) e
+        (words_run documents faults given absent left source_faults source_given held sink_faults old old s s k l None w.spoken r (quiet_whole documents faults given absent left source_faults source_given held sink_faults old old s s k l None refl) w.faults_never_fall
+        (usage_words x w.spoken w.is_spoken u) w.writes)

@@ -6,14 +6,14 @@ use Rattle.std.specs.String.{string_bytes}
 use Rattle.std.proofs.lemmas.Bool.{false≢true}
 use Rattle.qsr_lex.specs.declared.TheConstants.{MAX_TEXT}
 use Rattle.qsr_outside.specs.Documents.{Documents}
-use Rattle.qsr_words.specs.Asked.{Asked, CloseAsked, SolveAsked, CheckAsked, RelateAsked, DemoAsked, close, solve, check, trace, relate, demo}
+use Rattle.qsr_words.specs.Asked.{Asked, CloseAsked, SolveAsked, CheckAsked, RelateAsked, DemoAsked, close, solve, check, trace, relate, serve, demo}
 use Rattle.split_search.specs.declared.verdict.Verdict.{Verdict}
 use Rattle.split_search.specs.declared.verdict.Verdict.TheVariants as verdict
 use Rattle.qsr_top.specs.Stops.{Cause, HasCause}
 use Rattle.qsr_top.specs.Inputs.{Claimed, Related, RelatedOf}
 use Rattle.qsr_top.specs.Verdicts.{verdict_status}
 use Rattle.qsr_top.specs.Output.{OutputOf, Works, GivenTo, ReadBy, DocumentsGive, SourceGives, Makes, IsStatusOf, ChecksNetwork, TracesNetwork, RelatesPolygons}
-use Rattle.qsr_top.specs.Told.{WhereTold, SourceWaits, StopsBefore, told_where, told_documents, told_source, documents_of, reads_source}
+use Rattle.qsr_top.specs.Told.{WhereTold, SourceWaits, StopsBefore, told_where, told_documents, told_source, documents_of, reads_source, is_served}
 use Rattle.qsr_top.specs.Ends.{MayEnd, IsAnswered}
 use Rattle.qsr_top.specs.SinkAfter.{IsWritten}
 use Rattle.qsr_top.specs.Demonstrations.{Demonstrates}
@@ -24,6 +24,7 @@ use Rattle.qsr_top.specs.declared.stops.Stop.TheVariants as stop
 use Rattle.qsr_top.specs.declared.statuses.Status.{Status}
 use Rattle.qsr_top.specs.declared.statuses.Status.TheVariants.{Done, No, Budget, NotAccepted}
 use Rattle.qsr_top.proofs.Parts.{value_or_cause}
+use Rattle.qsr_top.proofs.Working.{long_output}
 use Rattle.qsr_top.proofs.Naming.{IfSome-weaker, told_all, named-told}
 use Rattle.qsr_top.proofs.Fetching.{not_failed, stop_long}
 use Rattle.qsr_top.proofs.InputsOnce.{DocumentsGive-one}
@@ -63,13 +64,14 @@ demo_answer a (verdict.Yes relations nodes) text = record { answered = tt; writt
 demo_answer a (verdict.No nodes) text = record { answered = tt; written = record { may_end = tt; is_text = tt } }
 demo_answer a (verdict.Budget nodes) text = record { answered = tt; written = record { may_end = tt; is_text = tt } }
 
-makes_answer : (asked : Asked) (given : GivenTo asked) (read : ReadBy asked) (text : List ℕ) (status : Status) → Makes asked given read text status → IsAnswer asked text status
-makes_answer (close a) c net text status h = closes_answer a h.closed text status h.verdict
-makes_answer (solve a) given net text status h = subst (IsAnswer (solve a) text) (sym h.status_is) (solves_answer a h.verdict text)
-makes_answer (check a) given net text status h = checks_answer a given net text status h
-makes_answer (trace a) given net text status h = traces_answer a given net text status h
-makes_answer (relate a) given read text status h = subst (IsAnswer (relate a) text) (sym h.1) (relates_answer a text)
-makes_answer (demo a) given read text status h = subst (IsAnswer (demo a) text) (sym h.status_is) (demo_answer a h.verdict text)
+makes_answer : (asked : Asked) (given : GivenTo asked) (read : ReadBy asked) (text : List ℕ) (status : Status) → is_served (Some asked) ≡ false → Makes asked given read text status → IsAnswer asked text status
+makes_answer (close a) c net text status whole h = closes_answer a h.closed text status h.verdict
+makes_answer (solve a) given net text status whole h = subst (IsAnswer (solve a) text) (sym h.status_is) (solves_answer a h.verdict text)
+makes_answer (check a) given net text status whole h = checks_answer a given net text status h
+makes_answer (trace a) given net text status whole h = traces_answer a given net text status h
+makes_answer (relate a) given read text status whole h = subst (IsAnswer (relate a) text) (sym h.1) (relates_answer a text)
+makes_answer (serve a) c script text status whole h = absurd (false≢true (sym whole))
+makes_answer (demo a) given read text status whole h = subst (IsAnswer (demo a) text) (sym h.status_is) (demo_answer a h.verdict text)
 
 works_output : (asked : Asked) (d : Documents) (b text : List ℕ) (status : Status) → IsAnswered status → Works asked d b text status → OutputOf asked d b text status
 works_output asked d b text Done is h = h
@@ -98,6 +100,10 @@ may_stop (trace a) stop.TooLong e = tt
 may_stop (trace a) stop.ReadFault e = tt
 may_stop (trace a) stop.Memory e = tt
 may_stop (relate a) s e = absurd (false≢true e)
+may_stop (serve a) (stop.Refused number place) e = tt
+may_stop (serve a) stop.TooLong e = tt
+may_stop (serve a) stop.ReadFault e = tt
+may_stop (serve a) stop.Memory e = tt
 may_stop (demo a) s e = absurd (false≢true e)
 
 relate_may_stop : (a : RelateAsked) (s : Stop) → MayEnd (Some (relate a)) (end_of s)
@@ -112,18 +118,19 @@ memory_may_end (solve a) = tt
 memory_may_end (check a) = tt
 memory_may_end (trace a) = tt
 memory_may_end (relate a) = tt
+memory_may_end (serve a) = tt
 memory_may_end (demo a) = tt
 
 -- a cause of what the documents give is one of the input; and one of what the source gives after them
 given_stops : (asked : Asked) (d : Documents) (b : List ℕ) (s : Stop) → HasCause (DocumentsGive asked d) s → OutputOfStop asked d b s
 given_stops asked d b (stop.Refused number place) h = (inl h, refl)
-given_stops asked d b stop.TooLong h = (inl h, refl)
+given_stops asked d b stop.TooLong h = long_output asked d b (inl h)
 given_stops asked d b stop.ReadFault h = tt
 given_stops asked d b stop.Memory h = tt
 
 read_stops : (asked : Asked) (d : Documents) (b : List ℕ) (given : GivenTo asked) (s : Stop) → DocumentsGive asked d (Ok given) → HasCause (SourceGives asked b given) s → OutputOfStop asked d b s
 read_stops asked d b given (stop.Refused number place) g h = (inr (record { value = given; first = g; second = inl h }), refl)
-read_stops asked d b given stop.TooLong g h = (inr (record { value = given; first = g; second = inl h }), refl)
+read_stops asked d b given stop.TooLong g h = long_output asked d b (inr (record { value = given; first = g; second = inl h }))
 read_stops asked d b given stop.ReadFault g h = tt
 read_stops asked d b given stop.Memory g h = tt
 
@@ -224,9 +231,9 @@ module _ {F S : Type 0} (documents : F → Option Documents) (faults given absen
         same_source_faults : source_faults t ≡ source_faults s
         same_source_faults = not_failed read _ r.faults_are_told
 
-        pub read_answered : (x : Answer) → Makes asked g read (string_bytes x.text) x.status → AnswersFrom old new s t (Ok x)
-        read_answered x work =
-            let is : IsAnswer asked (string_bytes x.text) x.status = makes_answer asked g read (string_bytes x.text) x.status work in
+        pub read_answered : is_served (Some asked) ≡ false → (x : Answer) → Makes asked g read (string_bytes x.text) x.status → AnswersFrom old new s t (Ok x)
+        read_answered whole x work =
+            let is : IsAnswer asked (string_bytes x.text) x.status = makes_answer asked g read (string_bytes x.text) x.status whole work in
             record {
               output = both_told _ _ (λ d b i j. works_output asked d b (string_bytes x.text) x.status is.answered (record {
                 value = record { given = g; read = read };
@@ -293,7 +300,7 @@ module _ {F : Type 0} (documents : F → Option Documents) (faults given absent 
   module _ (related : Related) (h : Fetches documents faults given absent (a.polygons ∷ []) (λ d. RelatedOf d a.polygons a.pattern) old new (Ok related)) where
     pub relate_answered : (x : Answer) → RelatesPolygons related (string_bytes x.text) x.status → RelatesFrom (Ok x)
     relate_answered x work =
-        let is : IsAnswer (relate a) (string_bytes x.text) x.status = makes_answer (relate a) related tt (string_bytes x.text) x.status work in
+        let is : IsAnswer (relate a) (string_bytes x.text) x.status = makes_answer (relate a) related tt (string_bytes x.text) x.status refl work in
         record {
           output = IfSome-weaker (documents old) _ _ (λ d i. works_output (relate a) d [] (string_bytes x.text) x.status is.answered (record {
             value = record { given = related; read = tt };
@@ -359,7 +366,7 @@ module _ {F S : Type 0} (documents : F → Option Documents) (faults given absen
 
     demo_answered : (x : Answer) → Demonstrates a (string_bytes x.text) x.status → DemoFrom (Ok x)
     demo_answered x work =
-        let is : IsAnswer (demo a) (string_bytes x.text) x.status = makes_answer (demo a) tt tt (string_bytes x.text) x.status work in
+        let is : IsAnswer (demo a) (string_bytes x.text) x.status = makes_answer (demo a) tt tt (string_bytes x.text) x.status refl work in
         record {
           output = works_output (demo a) map.empty [] (string_bytes x.text) x.status is.answered (record {
             value = record { given = tt; read = tt };

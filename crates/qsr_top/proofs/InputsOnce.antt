@@ -32,7 +32,7 @@ use Rattle.geo_facts.specs.declared.fault.FactFault.TheVariants as fact
 use Rattle.geo_facts.proofs.OneAnswer.{file-one, file_fault-one, file-no_fault}
 use Rattle.geo_facts.proofs.OneFacts.{facts-one, fact_fault-one, nodes-no_fault}
 use Rattle.qsr_outside.specs.Documents.{Documents, document}
-use Rattle.qsr_words.specs.Asked.{Asked, close, solve, check, trace, relate, demo}
+use Rattle.qsr_words.specs.Asked.{Asked, close, solve, check, trace, relate, serve, demo}
 use Rattle.qsr_top.specs.Stops.{Cause, refuses, is_long}
 use Rattle.qsr_top.specs.Parts.{Then, IsOne}
 use Rattle.qsr_top.specs.Numbers.{load_refusal, class_refusal, file_refusal, cert_refusal, geo_refusal, fact_refusal, pattern_refusal}
@@ -283,6 +283,7 @@ DocumentsGive-one (solve asked) documents = SearchedOf-one documents asked.calcu
 DocumentsGive-one (check asked) documents = ClaimedOf-one documents asked.calculus asked.certificate asked.polygons
 DocumentsGive-one (trace asked) documents = ClaimedOf-one documents asked.calculus asked.certificate asked.polygons
 DocumentsGive-one (relate asked) documents = RelatedOf-one documents asked.polygons asked.pattern
+DocumentsGive-one (serve asked) documents = CalculusOf-one documents asked.calculus
 DocumentsGive-one (demo asked) documents = λ x y p q. p ∙ sym q
 
 -- ---- network files
@@ -356,6 +357,7 @@ SourceGives-one (solve asked) bytes given = PlacedNetwork-one bytes given.guided
 SourceGives-one (check asked) bytes given = PlacedNetwork-one bytes given.calculus given.polygons
 SourceGives-one (trace asked) bytes given = PlacedNetwork-one bytes given.calculus given.polygons
 SourceGives-one (relate asked) bytes given = λ x y p q. p ∙ sym q
+SourceGives-one (serve asked) bytes c = λ x y p q. p ∙ sym q
 SourceGives-one (demo asked) bytes given = λ x y p q. p ∙ sym q
 
 pub InputOf-one : (asked : Asked) (documents : Documents) (bytes : List ℕ) → IsOne (InputOf asked documents bytes)

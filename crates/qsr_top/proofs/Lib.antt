@@ -22,3 +22,6 @@ pub mod SomeCertificates
 pub mod PlacedNetworks
 pub mod Claiming
 pub mod GivenSearches
+pub mod ScriptsSoFar
+pub mod AnsweredSoFar
+pub mod ServingRuns

@@ -1,5 +1,6 @@
 -- One text and one status at most are permitted for what words ask for.
-use Rattle.std.proofs.Common.{◌≡◌, ℕ, List, [], ◌++◌, None, Some, Result, Ok, Err, refl, sym, ◌∙◌, ap, subst}
+use Rattle.std.proofs.Common.{◌≡◌, ℕ, false, List, [], ◌++◌, None, Some, Result, Ok, Err, refl, sym, ◌∙◌, ap, subst}
+use Rattle.std.proofs.lemmas.Bool.{false≢true}
 use Rattle.calculus_table.specs.Calculus.{NamedAlgebra}
 use Rattle.calculus_builtin.specs.Rcc8.{rcc8_algebra}
 use Rattle.tract_classes.specs.BuiltIn.{h8}
@@ -13,13 +14,14 @@ use Rattle.split_search.specs.declared.verdict.Verdict.{Verdict}
 use Rattle.split_search.proofs.OneVerdict.{verdict_one}
 use Rattle.geo_facts.proofs.OneDemo.{demo-one}
 use Rattle.qsr_outside.specs.Documents.{Documents}
-use Rattle.qsr_words.specs.Asked.{Asked, SolveAsked, DemoAsked, close, solve, check, trace, relate, demo}
+use Rattle.qsr_words.specs.Asked.{Asked, SolveAsked, DemoAsked, close, solve, check, trace, relate, serve, demo}
 use Rattle.qsr_words.specs.declared.TheConstants.{MAX_BUDGET}
 use Rattle.qsr_top.specs.Stops.{Cause, refuses, is_long}
 use Rattle.qsr_top.specs.Texts.{refusal_text, verdict_line}
 use Rattle.qsr_top.specs.Verdicts.{answer_text, verdict_status, verdict_word}
 use Rattle.qsr_top.specs.Demonstrations.{Demonstrates, demo_head, members_in_all}
-use Rattle.qsr_top.specs.Output.{OutputOf, Works, Input, InputOf, GivenTo, ReadBy, Makes, ClosesNetwork, SolvesNetwork, IsClosureText, IsStatusOf}
+use Rattle.qsr_top.specs.Told.{is_served}
+use Rattle.qsr_top.specs.Output.{OutputOf, LongOutput, Works, Input, InputOf, GivenTo, ReadBy, Makes, ClosesNetwork, SolvesNetwork, IsClosureText, IsStatusOf}
 use Rattle.qsr_top.specs.Laws.{OutputIsOne}
 use Rattle.qsr_top.specs.declared.statuses.Place.{Place}
 use Rattle.qsr_top.specs.declared.statuses.Status.{Status}
@@ -96,17 +98,29 @@ module _ (asked : DemoAsked) (t u : List ℕ) (s r : Status) (h : Demonstrates a
 
 -- ---- what a command makes of its input
 
-makes_once : (asked : Asked) (given : GivenTo asked) (read : ReadBy asked) (t u : List ℕ) (s r : Status) → Makes asked given read t s → Makes asked given read u r → IsSame t u s r
-makes_once (close asked) c net t u s r h k = closes_once c net t u s r h k
-makes_once (solve asked) given net t u s r h k = solves_once given.guided.calculus net asked given.guided.class t u s r h k
-makes_once (check asked) given net t u s r h k = checks_once given.calculus net given.certificate t u s r h k
-makes_once (trace asked) given net t u s r h k = traces_once given.calculus net given.certificate t u s r h k
-makes_once (relate asked) given read t u s r h k = record { text = relates_once given t u h.0 k.0; status = h.1 ∙ sym k.1 }
-makes_once (demo asked) given read t u s r h k = demonstrates_once asked t u s r h k
+makes_once : (asked : Asked) (given : GivenTo asked) (read : ReadBy asked) (t u : List ℕ) (s r : Status) → is_served (Some asked) ≡ false → Makes asked given read t s → Makes asked given read u r → IsSame t u s r
+makes_once (close asked) c net t u s r whole h k = closes_once c net t u s r h k
+makes_once (solve asked) given net t u s r whole h k = solves_once given.guided.calculus net asked given.guided.class t u s r h k
+makes_once (check asked) given net t u s r whole h k = checks_once given.calculus net given.certificate t u s r h k
+makes_once (trace asked) given net t u s r whole h k = traces_once given.calculus net given.certificate t u s r h k
+makes_once (relate asked) given read t u s r whole h k = record { text = relates_once given t u h.0 k.0; status = h.1 ∙ sym k.1 }
+makes_once (serve asked) c script t u s r whole h k = absurd (false≢true (sym whole))
+makes_once (demo asked) given read t u s r whole h k = demonstrates_once asked t u s r h k
 
 -- ---- by the three kinds of its output
 
-module _ (asked : Asked) (documents : Documents) (bytes : List ℕ) where
+-- nothing is written where an input is too long
+long_only : (asked : Asked) (documents : Documents) (bytes t : List ℕ) → is_served (Some asked) ≡ false → LongOutput asked documents bytes t →
+    InputOf asked documents bytes (Err is_long) × (t ≡ [])
+long_only (close asked) documents bytes t whole h = h
+long_only (solve asked) documents bytes t whole h = h
+long_only (check asked) documents bytes t whole h = h
+long_only (trace asked) documents bytes t whole h = h
+long_only (relate asked) documents bytes t whole h = h
+long_only (serve asked) documents bytes t whole h = absurd (false≢true (sym whole))
+long_only (demo asked) documents bytes t whole h = h
+
+module _ (asked : Asked) (documents : Documents) (bytes : List ℕ) (whole : is_served (Some asked) ≡ false) where
   record IsRefused (t : List ℕ) (s : Status) : Type 0 where
     number : ℕ
     place : Place
@@ -125,7 +139,7 @@ module _ (asked : Asked) (documents : Documents) (bytes : List ℕ) where
   kind_of t Budget h = works h
   kind_of t (NotAccepted number place) h = works h
   kind_of t (Refused number place) h = refused (record { number = number; place = place; refused = h.0; text = h.1; status = refl })
-  kind_of t TooLong h = too_long h.0 h.1 refl
+  kind_of t TooLong h = let long = long_only asked documents bytes t whole h in too_long long.0 long.1 refl
   kind_of t _ h = absurd h
 
   -- the input has one value or one cause
@@ -135,7 +149,7 @@ module _ (asked : Asked) (documents : Documents) (bytes : List ℕ) where
   works_once : (t u : List ℕ) (s r : Status) → Works asked documents bytes t s → Works asked documents bytes u r → IsSame t u s r
   works_once t u s r h k =
       let same : h.value ≡ k.value = same_value h.value k.value (Ok h.value) (Ok k.value) refl refl (one (Ok h.value) (Ok k.value) h.input k.input) in
-      makes_once asked k.value.given k.value.read t u s r (subst (λ (v : Input asked). Makes asked v.given v.read t s) same h.work) k.work
+      makes_once asked k.value.given k.value.read t u s r whole (subst (λ (v : Input asked). Makes asked v.given v.read t s) same h.work) k.work
 
   works_or_stops : (t : List ℕ) (s : Status) (cause : Cause) → Works asked documents bytes t s → InputOf asked documents bytes (Err cause) → ⊥
   works_or_stops t s cause h k = value_or_cause h.value cause _ _ refl refl (one (Ok h.value) (Err cause) h.input k)
@@ -164,5 +178,5 @@ module _ (asked : Asked) (documents : Documents) (bytes : List ℕ) where
 -- ---- all words
 
 pub output_once : OutputIsOne
-output_once None documents bytes t u s r p q = (p.1 ∙ sym q.1, p.0 ∙ sym q.0)
-output_once (Some asked) documents bytes t u s r p q = command_once asked documents bytes t u s r p q
+output_once None documents bytes t u s r whole p q = (p.1 ∙ sym q.1, p.0 ∙ sym q.0)
+output_once (Some asked) documents bytes t u s r whole p q = command_once asked documents bytes whole t u s r p q

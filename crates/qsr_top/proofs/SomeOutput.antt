@@ -12,7 +12,7 @@ use Rattle.split_search.specs.declared.verdict.Verdict.{Verdict}
 use Rattle.split_search.specs.declared.verdict.Verdict.TheVariants as verdict
 use Rattle.split_search.proofs.SomeVerdict.{verdict_exists}
 use Rattle.qsr_outside.specs.Documents.{Documents}
-use Rattle.qsr_words.specs.Asked.{Asked, SolveAsked, close, solve, check, trace, relate, demo}
+use Rattle.qsr_words.specs.Asked.{Asked, SolveAsked, close, solve, check, trace, relate, serve, demo}
 use Rattle.qsr_top.specs.Stops.{Cause, refuses, is_long}
 use Rattle.qsr_top.specs.Parts.{Then}
 use Rattle.qsr_top.specs.Texts.{usage_text, refusal_text}
@@ -25,7 +25,7 @@ use Rattle.qsr_top.specs.declared.statuses.Status.TheVariants.{Done, No, Usage, 
 use Rattle.qsr_top.proofs.InputsThere.{There, value, stops, Then-there, IsOfWord, CalculusOf-there, SourceNetwork-there, PlacedNetwork-there, IsOver, IsGuide, IsSoundSearch, SearchedOf-there, IsSoundClaim, ClaimedOf-there}
 use Rattle.qsr_top.proofs.SomeCertificates.{Made, checks_there, traces_there}
 use Rattle.qsr_top.proofs.Verdicts.{verdict_true, no_rules_out}
-use Rattle.qsr_top.proofs.Working.{working_output}
+use Rattle.qsr_top.proofs.Working.{working_output, long_output}
 
 -- ---- closing
 
@@ -110,7 +110,7 @@ module _ (asked : Asked) (documents : Documents) (bytes : List ℕ) (Given : Giv
 
   stopped_out : (cause : Cause) → InputOf asked documents bytes (Err cause) → HasOutput (Some asked) documents bytes
   stopped_out (refuses number place) h = record { text = refusal_text number place; status = Refused number place; output = (h, refl) }
-  stopped_out is_long h = record { text = []; status = TooLong; output = (h, refl) }
+  stopped_out is_long h = record { text = []; status = TooLong; output = long_output asked documents bytes h }
 
   some_output : There (InputOf asked documents bytes) Known → ((g : GivenTo asked) (r : ReadBy asked) → Given g → Read g r → Made (Makes asked g r)) → HasOutput (Some asked) documents bytes
   some_output (value i input known) make = worked_out i input (make i.given i.read known.given known.read)
@@ -141,4 +141,5 @@ output_there (Some (trace asked)) documents bytes fits none there =
     (ClaimedOf-there documents asked.calculus asked.certificate asked.polygons none there)
     (λ k known. PlacedNetwork-there bytes k.calculus k.polygons known.none) (λ k net known over. traces_there k.calculus net known.lawful over k.certificate known.scenario)
 output_there (Some (relate asked)) documents bytes fits none there = absurd none
+output_there (Some (serve asked)) documents bytes fits none there = absurd none
 output_there (Some (demo asked)) documents bytes fits none there = absurd none

@@ -2,7 +2,7 @@
 use Rattle.std.specs.Prelude.{Option, None, Some}
 use Rattle.qsr_outside.specs.declared.reading.ReadStop.{ReadStop}
 use Rattle.qsr_outside.specs.declared.reading.ReadStop.TheVariants as stop
-use Rattle.qsr_words.specs.Asked.{Asked, close, solve, check, trace, relate, demo}
+use Rattle.qsr_words.specs.Asked.{Asked, close, solve, check, trace, relate, serve, demo}
 use Rattle.qsr_top.specs.declared.statuses.Status.{Status}
 use Rattle.qsr_top.specs.declared.statuses.Status.TheVariants.{Done, No, Usage, ReadFault, WriteFault, Memory, Budget, NotAccepted, TooLong}
 
@@ -34,6 +34,14 @@ IsRelateEnd Budget = ⊥
 IsRelateEnd (NotAccepted number place) = ⊥
 IsRelateEnd status = Unit {0}
 
+-- the ends of the command that answers a script
+abbrev pub IsServeEnd : Status → Type 0
+IsServeEnd No = ⊥
+IsServeEnd Usage = ⊥
+IsServeEnd Budget = ⊥
+IsServeEnd (NotAccepted number place) = ⊥
+IsServeEnd status = Unit {0}
+
 -- the ends of the demonstration
 abbrev pub IsDemoEnd : Status → Type 0
 IsDemoEnd Done = Unit {0}
@@ -58,13 +66,16 @@ MayEnd (Some (solve asked)) status = IsSolveEnd status
 MayEnd (Some (check asked)) status = IsCheckEnd status
 MayEnd (Some (trace asked)) status = IsCheckEnd status
 MayEnd (Some (relate asked)) status = IsRelateEnd status
+MayEnd (Some (serve asked)) status = IsServeEnd status
 MayEnd (Some (demo asked)) status = IsDemoEnd status
 
--- an input was too long; out of memory may come in its place
-abbrev pub IsTooLongOrMemory : Status → Type 0
-IsTooLongOrMemory TooLong = Unit {0}
-IsTooLongOrMemory Memory = Unit {0}
-IsTooLongOrMemory status = ⊥
+-- an input was too long; out of memory may come in its place, and so may a fault of the sink where a script is answered
+abbrev pub IsLongEnd : Status → Option Asked → Type 0
+IsLongEnd TooLong asked = Unit {0}
+IsLongEnd Memory asked = Unit {0}
+IsLongEnd WriteFault (Some (serve asked)) = Unit {0}
+IsLongEnd WriteFault asked = ⊥
+IsLongEnd status asked = ⊥
 
 -- a command was answered by what it makes of its input
 abbrev pub IsAnswered : Status → Type 0

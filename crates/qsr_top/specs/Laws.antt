@@ -1,22 +1,22 @@
 -- What holds of all outputs.
-use Rattle.std.specs.Prelude.{◌≡◌, ℕ, ⊤, List, All, Option, None, Some, IsSomeAnd}
+use Rattle.std.specs.Prelude.{◌≡◌, ℕ, ⊤, false, List, All, Option, None, Some, IsSomeAnd}
 use Rattle.qsr_outside.specs.Documents.{Documents, document}
-use Rattle.qsr_words.specs.Asked.{Asked, close, solve, check, trace, relate, demo, asked_by}
+use Rattle.qsr_words.specs.Asked.{Asked, close, solve, check, trace, relate, serve, demo, asked_by}
 use Rattle.qsr_words.specs.Requests.{FitsCalculus}
-use Rattle.qsr_top.specs.Told.{named_documents}
+use Rattle.qsr_top.specs.Told.{named_documents, is_served}
 use Rattle.qsr_top.specs.Output.{Output}
 use Rattle.qsr_top.specs.declared.statuses.Status.{Status}
 
--- one text and one status at most
+-- one text and one status at most, but for scripts, where peeks may show different sets
 abbrev pub OutputIsOne : Type 0
 OutputIsOne = (asked : Option Asked) (documents : Documents) (bytes t u : List ℕ) (s r : Status) →
-    Output asked documents bytes t s → Output asked documents bytes u r → (t ≡ u) × (s ≡ r)
+    is_served asked ≡ false → Output asked documents bytes t s → Output asked documents bytes u r → (t ≡ u) × (s ≡ r)
 
 -- the documents that are named are there
 abbrev pub HasNamedDocuments : Option Asked → Documents → Type 0
 HasNamedDocuments asked documents = All (λ name. IsSomeAnd (document documents name) (λ _. ⊤)) (named_documents asked)
 
--- no polygons are asked for
+-- no polygons are asked for, and no script is answered
 abbrev pub HasNoPolygons : Option Asked → Type 0
 HasNoPolygons None = ⊤
 HasNoPolygons (Some (close asked)) = ⊤
@@ -24,6 +24,7 @@ HasNoPolygons (Some (solve asked)) = asked.polygons ≡ None
 HasNoPolygons (Some (check asked)) = asked.polygons ≡ None
 HasNoPolygons (Some (trace asked)) = asked.polygons ≡ None
 HasNoPolygons (Some (relate asked)) = ⊥
+HasNoPolygons (Some (serve asked)) = ⊥
 HasNoPolygons (Some (demo asked)) = ⊥
 
 -- a text and a status that are permitted
@@ -32,7 +33,8 @@ pub record HasOutput (asked : Option Asked) (documents : Documents) (bytes : Lis
   pub status : Status
   pub output : Output asked documents bytes text status
 
--- and one text and one status at least, where the named documents are there, class and polygons fit, and no polygons are asked for
+-- and one text and one status at least, where the named documents are there, class and polygons fit, no polygons are asked
+-- for, and no script is answered
 abbrev pub OutputIsThere : Type 0
 OutputIsThere = (asked : Option Asked) (documents : Documents) (bytes : List ℕ) →
     FitsCalculus asked → HasNoPolygons asked → HasNamedDocuments asked documents → HasOutput asked documents bytes

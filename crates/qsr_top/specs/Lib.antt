@@ -8,12 +8,14 @@ pub mod Certificates
 pub mod Verdicts
 pub mod Relations
 pub mod Demonstrations
+pub mod Ends
+pub mod Serving
 pub mod Output
 pub mod Told
-pub mod Ends
 pub mod Spoken
 pub mod SinkAfter
 pub mod Answers
+pub mod Runs
 pub mod Laws
 pub use Rattle.network_words.specs.Network
 pub use Rattle.network_words.specs.Closure

@@ -1,6 +1,6 @@
 -- What the program writes, and how it ends: a relation between what its words ask for, the documents, the bytes of its source, a text
 -- and a status. Each command makes something of what the documents give and what the source gives.
-use Rattle.std.specs.Prelude.{◌≡◌, ℕ, List, [], Contains, Option, None, Some, Result, Ok, Err}
+use Rattle.std.specs.Prelude.{◌≡◌, ◌⊎◌, ℕ, List, [], Contains, Option, None, Some, Result, Ok, Err}
 use Rattle.calculus_table.specs.Calculus.{NamedAlgebra}
 use Rattle.network_words.specs.Network.{Network}
 use Rattle.network_words.specs.Closure.{IsClosure}
@@ -11,7 +11,7 @@ use Rattle.split_search.specs.Ruled.{IsVerdict}
 use Rattle.split_search.specs.Verdicts.{IsTrueOf}
 use Rattle.split_search.specs.declared.verdict.Verdict.{Verdict}
 use Rattle.qsr_outside.specs.Documents.{Documents}
-use Rattle.qsr_words.specs.Asked.{Asked, SolveAsked, close, solve, check, trace, relate, demo}
+use Rattle.qsr_words.specs.Asked.{Asked, SolveAsked, close, solve, check, trace, relate, serve, demo}
 use Rattle.qsr_top.specs.Stops.{Cause, refuses, is_long}
 use Rattle.qsr_top.specs.Parts.{Then}
 use Rattle.qsr_top.specs.Inputs.{CalculusOf, Searched, SearchedOf, Claimed, ClaimedOf, Related, RelatedOf, SourceNetwork, PlacedNetwork}
@@ -19,6 +19,7 @@ use Rattle.qsr_top.specs.Texts.{usage_text, refusal_text, accepted_text, not_acc
 use Rattle.qsr_top.specs.Verdicts.{answer_text, verdict_status, RulesOut}
 use Rattle.qsr_top.specs.Certificates.{IsAccepted, IsNotAccepted, IsTracedForm}
 use Rattle.qsr_top.specs.Relations.{IsTextOfPolygons}
+use Rattle.qsr_top.specs.Serving.{ServesScript}
 use Rattle.qsr_top.specs.Demonstrations.{Demonstrates}
 use Rattle.qsr_top.specs.declared.statuses.Status.{Status}
 use Rattle.qsr_top.specs.declared.statuses.Status.TheVariants.{Done, No, Usage, Refused, ReadFault, WriteFault, Memory, NotAccepted, TooLong}
@@ -92,6 +93,7 @@ GivenTo (solve asked) = Searched
 GivenTo (check asked) = Claimed
 GivenTo (trace asked) = Claimed
 GivenTo (relate asked) = Related
+GivenTo (serve asked) = NamedAlgebra
 GivenTo (demo asked) = Unit {0}
 
 abbrev pub DocumentsGive : (asked : Asked) → Documents → Result (GivenTo asked) Cause → Type 0
@@ -100,15 +102,17 @@ DocumentsGive (solve asked) documents = SearchedOf documents asked.calculus aske
 DocumentsGive (check asked) documents = ClaimedOf documents asked.calculus asked.certificate asked.polygons
 DocumentsGive (trace asked) documents = ClaimedOf documents asked.calculus asked.certificate asked.polygons
 DocumentsGive (relate asked) documents = RelatedOf documents asked.polygons asked.pattern
+DocumentsGive (serve asked) documents = CalculusOf documents asked.calculus
 DocumentsGive (demo asked) documents = λ result. result ≡ Ok tt
 
--- what the source gives it: a network, or nothing where it isn't read
+-- what the source gives it: a network or a script, or nothing where it isn't read
 abbrev pub ReadBy : Asked → Type 0
 ReadBy (close asked) = Network
 ReadBy (solve asked) = Network
 ReadBy (check asked) = Network
 ReadBy (trace asked) = Network
 ReadBy (relate asked) = Unit {0}
+ReadBy (serve asked) = List ℕ
 ReadBy (demo asked) = Unit {0}
 
 abbrev pub SourceGives : (asked : Asked) → List ℕ → GivenTo asked → Result (ReadBy asked) Cause → Type 0
@@ -117,6 +121,7 @@ SourceGives (solve asked) bytes given = PlacedNetwork bytes given.guided.calculu
 SourceGives (check asked) bytes given = PlacedNetwork bytes given.calculus given.polygons
 SourceGives (trace asked) bytes given = PlacedNetwork bytes given.calculus given.polygons
 SourceGives (relate asked) bytes given = λ result. result ≡ Ok tt
+SourceGives (serve asked) bytes c = λ result. result ≡ Ok bytes
 SourceGives (demo asked) bytes given = λ result. result ≡ Ok tt
 
 -- the text and the status that it makes of both
@@ -126,6 +131,7 @@ Makes (solve asked) given net = SolvesNetwork asked given.guided.calculus given.
 Makes (check asked) given net = ChecksNetwork given.calculus given.certificate net
 Makes (trace asked) given net = TracesNetwork given.calculus given.certificate net
 Makes (relate asked) given read = RelatesPolygons given
+Makes (serve asked) c script = ServesScript asked c script
 Makes (demo asked) given read = Demonstrates asked
 
 -- ---- every command
@@ -148,11 +154,17 @@ pub record Works (asked : Asked) (documents : Documents) (bytes text : List ℕ)
   pub input : InputOf asked documents bytes (Ok value)
   pub work : Makes asked value.given value.read text status
 
--- the line of a refusal, nothing where an input is too long, and else what the command makes of its input
+-- nothing where an input is too long; of a script that is, a part is answered
+abbrev pub LongOutput : Asked → Documents → List ℕ → List ℕ → Type 0
+LongOutput (serve asked) documents bytes text =
+    (InputOf (serve asked) documents bytes (Err is_long) × (text ≡ [])) ⊎ Works (serve asked) documents bytes text TooLong
+LongOutput asked documents bytes text = InputOf asked documents bytes (Err is_long) × (text ≡ [])
+
+-- the line of a refusal, what is written where an input is too long, and else what the command makes of its input
 abbrev pub OutputOf : Asked → Documents → List ℕ → List ℕ → Status → Type 0
 OutputOf asked documents bytes text (Refused number place) =
     InputOf asked documents bytes (Err (refuses number place)) × (text ≡ refusal_text number place)
-OutputOf asked documents bytes text TooLong = InputOf asked documents bytes (Err is_long) × (text ≡ [])
+OutputOf asked documents bytes text TooLong = LongOutput asked documents bytes text
 OutputOf asked documents bytes text Usage = ⊥
 OutputOf asked documents bytes text ReadFault = ⊥
 OutputOf asked documents bytes text WriteFault = ⊥

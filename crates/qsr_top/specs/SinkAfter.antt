@@ -1,11 +1,13 @@
 -- What a run leaves in its sink, by its status.
-use Rattle.std.specs.Prelude.{◌≡◌, ℕ, List, Option}
+use Rattle.std.specs.Prelude.{◌≡◌, ◌⊎◌, ℕ, false, List, Option, Some}
 use Rattle.std.specs.Io.KnownBytes.{Appends, Keeps}
 use Rattle.qsr_outside.specs.Documents.{Documents}
 use Rattle.qsr_outside.specs.Writing.{AppendsPart}
-use Rattle.qsr_words.specs.Asked.{Asked}
+use Rattle.qsr_words.specs.Asked.{Asked, serve}
 use Rattle.qsr_top.specs.Ends.{MayEnd}
+use Rattle.qsr_top.specs.Told.{is_served}
 use Rattle.qsr_top.specs.Output.{Output}
+use Rattle.qsr_top.specs.Serving.{Over, WritesGiven, WritesFirst, WritesPartOfBatch}
 use Rattle.qsr_top.specs.Texts.{refusal_text, usage_text, not_accepted_text}
 use Rattle.qsr_top.specs.declared.statuses.Status.{Status}
 use Rattle.qsr_top.specs.declared.statuses.Status.TheVariants.{Done, No, Usage, Refused, ReadFault, WriteFault, Memory, Budget, NotAccepted, TooLong}
@@ -23,23 +25,41 @@ pub record WritesPart (asked : Option Asked) (documents : Documents) (bytes : Li
   pub appended : AppendsPart old new text
   pub output : Output asked documents bytes text status
 
--- over inputs that are told: nothing where reading failed or memory ran out, a part of a text where the sink failed, else a whole
--- text
-abbrev pub LeavesInSink : Option Asked → Documents → List ℕ → Option (List ℕ) → Option (List ℕ) → Status → Type 0
-LeavesInSink asked documents bytes old new ReadFault = Keeps old new
-LeavesInSink asked documents bytes old new Memory = Keeps old new
-LeavesInSink asked documents bytes old new WriteFault = WritesPart asked documents bytes old new
-LeavesInSink asked documents bytes old new status = WritesOutput asked documents bytes old new status
+-- nothing where reading failed; of a script, the texts of the batches that were given whole, unless it was the shelf that failed
+abbrev pub LeavesAtReadFault : Option Asked → Documents → List ℕ → Option (List ℕ) → Option (List ℕ) → Option (List ℕ) → Type 0
+LeavesAtReadFault (Some (serve asked)) documents bytes left old new =
+    (Keeps (Some bytes) left × Keeps old new) ⊎ Over asked documents (λ c. WritesGiven asked c bytes left old new)
+LeavesAtReadFault asked documents bytes left old new = Keeps old new
 
--- over every input: the text that belongs to the status alone, whole, and nothing where there is none to write
-abbrev pub LeavesByStatus : Option (List ℕ) → Option (List ℕ) → Status → Type 0
-LeavesByStatus old new Usage = Appends old new usage_text
-LeavesByStatus old new (Refused number place) = Appends old new (refusal_text number place)
-LeavesByStatus old new (NotAccepted number place) = Appends old new (not_accepted_text number place)
-LeavesByStatus old new ReadFault = Keeps old new
-LeavesByStatus old new Memory = Keeps old new
-LeavesByStatus old new TooLong = Keeps old new
-LeavesByStatus old new status = Unit {0}
+-- nothing where memory ran out; of a script, the texts of some first batches
+abbrev pub LeavesOutOfMemory : Option Asked → Documents → List ℕ → Option (List ℕ) → Option (List ℕ) → Type 0
+LeavesOutOfMemory (Some (serve asked)) documents bytes old new =
+    Keeps old new ⊎ Over asked documents (λ c. WritesFirst asked c bytes old new)
+LeavesOutOfMemory asked documents bytes old new = Keeps old new
+
+-- a part of a text where the sink failed; of a script, the texts of some first batches and a part of the next one's
+abbrev pub LeavesAtWriteFault : Option Asked → Documents → List ℕ → Option (List ℕ) → Option (List ℕ) → Option (List ℕ) → Type 0
+LeavesAtWriteFault (Some (serve asked)) documents bytes left old new =
+    WritesPart (Some (serve asked)) documents bytes old new ⊎ Over asked documents (λ c. WritesPartOfBatch asked c bytes left old new)
+LeavesAtWriteFault asked documents bytes left old new = WritesPart asked documents bytes old new
+
+-- over inputs that are told, where this is left of the source: nothing where reading failed or memory ran out, a part of a text where
+-- the sink failed, else a whole text
+abbrev pub LeavesInSink : Option Asked → Documents → List ℕ → Option (List ℕ) → Option (List ℕ) → Option (List ℕ) → Status → Type 0
+LeavesInSink asked documents bytes left old new ReadFault = LeavesAtReadFault asked documents bytes left old new
+LeavesInSink asked documents bytes left old new Memory = LeavesOutOfMemory asked documents bytes old new
+LeavesInSink asked documents bytes left old new WriteFault = LeavesAtWriteFault asked documents bytes left old new
+LeavesInSink asked documents bytes left old new status = WritesOutput asked documents bytes old new status
+
+-- over every input: the text that belongs to the status alone, whole, and nothing where there is none to write, but for a script
+abbrev pub LeavesByStatus : Option Asked → Option (List ℕ) → Option (List ℕ) → Status → Type 0
+LeavesByStatus asked old new Usage = Appends old new usage_text
+LeavesByStatus asked old new (Refused number place) = Appends old new (refusal_text number place)
+LeavesByStatus asked old new (NotAccepted number place) = Appends old new (not_accepted_text number place)
+LeavesByStatus asked old new ReadFault = is_served asked ≡ false → Keeps old new
+LeavesByStatus asked old new Memory = is_served asked ≡ false → Keeps old new
+LeavesByStatus asked old new TooLong = is_served asked ≡ false → Keeps old new
+LeavesByStatus asked old new status = Unit {0}
 
 -- an answer's text is the one that belongs to its status, where one does
 abbrev pub IsTextOf : List ℕ → Status → Type 0

@@ -2,7 +2,7 @@
 use Rattle.std.specs.Prelude.{◌≡◌, ℕ, ⊤, List, [], ◌∷◌, ◌++◌, All, Bool, true, false, Option, None, Some, Err, is_some, IfSome, MatchBool, if◌then◌else◌}
 use Rattle.std.specs.FinMap as map
 use Rattle.qsr_outside.specs.Documents.{Documents, HasDocument}
-use Rattle.qsr_words.specs.Asked.{Asked, close, solve, check, trace, relate, demo}
+use Rattle.qsr_words.specs.Asked.{Asked, close, solve, check, trace, relate, serve, demo}
 use Rattle.qsr_top.specs.Stops.{Cause}
 use Rattle.qsr_top.specs.Inputs.{builtin_of, builtin_class}
 use Rattle.qsr_top.specs.Output.{DocumentsGive}
@@ -26,6 +26,7 @@ documents_of (solve asked) = (named_by_calculus asked.calculus ++ named_by_class
 documents_of (check asked) = named_by_calculus asked.calculus ++ (asked.certificate ∷ []) ++ named_by_polygons asked.polygons
 documents_of (trace asked) = named_by_calculus asked.calculus ++ (asked.certificate ∷ []) ++ named_by_polygons asked.polygons
 documents_of (relate asked) = asked.polygons ∷ []
+documents_of (serve asked) = named_by_calculus asked.calculus
 documents_of (demo asked) = []
 
 abbrev pub named_documents : Option Asked → List (List ℕ)
@@ -47,7 +48,13 @@ reads_source (solve asked) = true
 reads_source (check asked) = true
 reads_source (trace asked) = true
 reads_source (relate asked) = false
+reads_source (serve asked) = true
 reads_source (demo asked) = false
+
+-- the command answers a script batch by batch, as it reads it
+abbrev pub is_served : Option Asked → Bool
+is_served (Some (serve asked)) = true
+is_served asked = false
 
 -- the bytes of the source, where the command reads it
 abbrev pub told_source : Option Asked → Option (List ℕ) → Option (List ℕ)

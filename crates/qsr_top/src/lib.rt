@@ -13,6 +13,7 @@ mod placing;
 mod polygons;
 mod relating;
 mod running;
+mod serving;
 mod solving;
 mod statuses;
 mod stops;
@@ -20,6 +21,7 @@ mod stops;
 mod tests;
 mod texts;
 mod tracing;
+mod writing;
 
 pub use laws::output_is_one;
 pub use running::run;

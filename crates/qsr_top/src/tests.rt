@@ -584,6 +584,138 @@ fn a_seed_states_a_network(rt: HostRuntime) -> Result<(), Fail> {
 }
 
 #[test]
+fn sessions_are_answered_batch_by_batch(rt: HostRuntime) -> Result<(), Fail> {
+    // nodes, script, the text that is written
+    let rows: [(&str, &[u8], &str); 6] = [
+        (
+            "3",
+            b"s1 assert 0 1 ( TPP )\ns1 peek 0 1\ns2 assert 1 2 ( NTPP )\ns1 ask 0 2\ncommit\n\
+              s2 withdraw 1\ns1 withdraw 1\ns1 ask 0 2\ncommit\ns1 withdraw 1\n",
+            "s1 fact 1\ns1 peek ( TPP )\ns2 fact 2\ns1 ask 1 ( NTPP )\nversion 1 closed\n\
+             line 1 refused 45\ns1 withdrawn 1\ns1 ask 2 ( DC EC PO TPP NTPP TPPi NTPPi EQ )\nversion 2 closed\n\
+             line 1 refused 44\nversion 3 closed\n",
+        ),
+        (
+            "2",
+            b"s assert 0 9 ( XX )\ns assert 0 0 ( XX )\ns assert 0 1 ( XX )\n",
+            "line 1 refused 15\nline 2 refused 16\nline 3 refused 19\nversion 1 closed\n",
+        ),
+        (
+            "2",
+            b"s assert 0 1 ( )\ns withdraw 1\n",
+            "s fact 1\nline 2 refused 44\nversion 1 empty\n",
+        ),
+        ("2", b"", ""),
+        ("2", b"commit", "version 1 closed\n"),
+        (
+            "3",
+            b"s1 assert 0 1 ( TPP )\ns1 assert 1 2 ( NTPP )\ncommit\ns1 peek 0 2\ncommit\n",
+            "s1 fact 1\ns1 fact 2\nversion 1 closed\ns1 peek ( NTPP )\nversion 2 closed\n",
+        ),
+    ];
+    for (nodes, script, text) in rows {
+        let (status, written) = ran(&rt, &["serve", "rcc8", nodes], script, &[], &[], &NoGate)?;
+        assert_eq!(rt; status, Status::Done, "on {script:?}");
+        assert_eq!(rt; written.as_slice(), text.as_bytes(), "on {script:?}");
+    }
+    Ok(())
+}
+
+#[test]
+fn a_script_is_answered_up_to_a_fault(rt: HostRuntime) -> Result<(), Fail> {
+    let alloc = rt.alloc();
+    let script = b"s1 assert 0 1 ( TPP )\ns1 assert 1 2 ( NTPP )\ncommit\ns1 peek 0 2\ncommit\n";
+    let words = owned(alloc, &["serve", "rcc8", "3"])?;
+    let first = "s1 fact 1\ns1 fact 2\nversion 1 closed\n";
+    // failing reads, failing writes, how the run ends, the text that is written, how many bytes were given
+    let rows: [(&[u32], &[u32], Status, &str, u64); 3] = [
+        (&[52], &[], Status::ReadFault, first, 52),
+        (&[51], &[], Status::ReadFault, "", 51),
+        (&[], &[0], Status::WriteFault, "", 52),
+    ];
+    for (reads, writes, status, text, given) in rows {
+        let mut shelf = MapShelf::new(alloc, &[])?;
+        let mut source = BytesSource::new(alloc, script, 1, reads)?;
+        let mut sink = BytesSink::new(alloc, 4096, writes)?;
+        sink.reserve(4096)?;
+        let ended = run(
+            &rt,
+            alloc,
+            &words,
+            &mut shelf,
+            &mut source,
+            &mut sink,
+            &NoGate,
+        );
+        assert_eq!(rt; ended, status, "reads {reads:?}, writes {writes:?}");
+        assert_eq!(rt;
+            sink.bytes(),
+            text.as_bytes(),
+            "reads {reads:?}, writes {writes:?}"
+        );
+        assert_eq!(rt; source.given(), given, "reads {reads:?}, writes {writes:?}");
+    }
+    Ok(())
+}
+
+/// A gate that holds a point until another one was passed, for a number of turns at most.
+#[derive(Drop)]
+struct Holding {
+    held: u32,
+    until: u32,
+    passed: AtomicU64,
+    missed: AtomicU64,
+}
+
+impl Gate for Holding {
+    fn pass(&self, point: u32) {
+        if point == self.until {
+            self.passed.store(1, Ordering::SeqCst);
+        }
+        if point != self.held {
+            return;
+        }
+        for _ in 0..200_000_000u64 {
+            if self.passed.load(Ordering::SeqCst) == 1 {
+                return;
+            }
+        }
+        self.missed.store(1, Ordering::SeqCst);
+    }
+}
+
+#[test]
+fn a_peek_comes_before_or_after_an_assertion(rt: HostRuntime) -> Result<(), Fail> {
+    // the point that is held, the point that it waits for, the text that is written
+    let rows: [(u32, u32, &str); 2] = [
+        (
+            2001,
+            3000,
+            "a peek ( DC EC PO TPP NTPP TPPi NTPPi EQ )\nb fact 1\nversion 1 closed\n",
+        ),
+        (2000, 3001, "a peek ( TPP )\nb fact 1\nversion 1 closed\n"),
+    ];
+    let script = b"a peek 0 1\nb assert 0 1 ( TPP )\ncommit\n";
+    for (held, until, text) in rows {
+        let gate = Holding {
+            held,
+            until,
+            passed: AtomicU64::new(0),
+            missed: AtomicU64::new(0),
+        };
+        let (status, written) = ran(&rt, &["serve", "rcc8", "2"], script, &[], &[], &gate)?;
+        assert_eq!(rt; status, Status::Done);
+        assert_eq!(rt;
+            written.as_slice(),
+            text.as_bytes(),
+            "{held} waits for {until}"
+        );
+        assert_eq!(rt; gate.missed.load(Ordering::SeqCst), 0);
+    }
+    Ok(())
+}
+
+#[test]
 fn faulty_sources_are_refused_with_number_and_place(rt: HostRuntime) -> Result<(), Fail> {
     let rows: [(&[u8], &str, Status); 12] = [
         (b"", "refused 20 0\n", refused(20, 0)),

@@ -1,10 +1,10 @@
 -- What words ask for, by the test of each and by the first.
-use Rattle.std.proofs.Common.{◌≡◌, ◌≤◌, Bool, true, false, List, [], ◌∷◌, length, map, get_or, refl, sym, ap, ◌∙◌, ◌||◌, cond, Option, None, Some, option_map, String, Global, arith}
-use Rattle.std.specs.Prelude.{IsSomeAnd, MatchOption, unwrap_or}
+use Rattle.std.proofs.Common.{◌≡◌, ◌≤◌, subst, Bool, true, false, List, [], ◌∷◌, length, map, get_or, refl, sym, ap, ◌∙◌, ◌||◌, cond, Option, None, Some, option_map, String, Global, arith}
+use Rattle.std.specs.Prelude.{IfSome, IsSomeAnd, MatchOption, unwrap_or}
 use Rattle.std.specs.List.{list_any}
 use Rattle.std.specs.String.{string_bytes}
 use Rattle.qsr_words.specs.Asked.{Asked, asked_by, command_asked, command_by, is_strange}
-use Rattle.qsr_words.specs.Requests.{asked_of}
+use Rattle.qsr_words.specs.Requests.{asked_of, IsWithinLimits}
 use Rattle.qsr_words.specs.declared.reading.Request.{Request}
 use Rattle.qsr_words.specs.declared.reading.Request.TheVariants as request
 
@@ -43,3 +43,11 @@ asked_of-made None None to view of asked h same e = ap (option_map of) e
 asked_of-made None (Some y) to view of asked h same e = cc
 asked_of-made (Some x) None to view of asked h same e = absurd h
 asked_of-made (Some x) (Some y) to view of asked h same e = ap asked_of h ∙ same x ∙ ap (option_map of) e
+
+-- and it is within the limits that the command's words are within
+pub IsWithinLimits-made : {A : Type 0} (read : Option A) (made : Option Request) (to : A → Request) →
+    MatchOption read (made ≡ None) (λ x. IsSomeAnd made (λ y. y ≡ to x)) → IfSome read (λ x. IsWithinLimits (to x)) → IsWithinLimits (unwrap_or made request.Usage)
+IsWithinLimits-made None None to h within = tt
+IsWithinLimits-made None (Some y) to h within = cc
+IsWithinLimits-made (Some x) None to h within = absurd h
+IsWithinLimits-made (Some x) (Some y) to h within = subst IsWithinLimits (sym h) within

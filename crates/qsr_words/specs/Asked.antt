@@ -6,7 +6,7 @@ use Rattle.clap.specs.Words.{App, Row, Rule, fault_of, first_of, matches_of, new
 use Rattle.qsr_lex.specs.Numbers.{number_of}
 use Rattle.clap.specs.declared.builder.action.ArgAction.TheVariants.{SetTrue}
 use Rattle.qsr_words.specs.declared.TheConstants.{MIN_WORKERS, MAX_WORKERS, USUAL_WORKERS, MAX_BUDGET, USUAL_BUDGET}
-use Rattle.qsr_words.specs.declared.TheConstants.{MAX_SEED, MIN_DEMO_NODES, MAX_DEMO_NODES}
+use Rattle.qsr_words.specs.declared.TheConstants.{MAX_SEED, MIN_DEMO_NODES, MAX_DEMO_NODES, MIN_SERVED_NODES, MAX_SERVED_NODES}
 
 -- ---- words in general
 
@@ -71,6 +71,12 @@ seed_asked = option_and_then (number_within 0 MAX_SEED)
 -- the number of nodes that a word is
 abbrev pub nodes_asked : Option (List ℕ) → Option ℕ
 nodes_asked = option_and_then (number_within MIN_DEMO_NODES MAX_DEMO_NODES)
+
+-- ---- sessions
+
+-- the number of nodes of the network that sessions use
+abbrev pub served_nodes_asked : Option (List ℕ) → Option ℕ
+served_nodes_asked = option_and_then (number_within MIN_SERVED_NODES MAX_SERVED_NODES)
 
 -- ---- the words of each command
 
@@ -219,6 +225,33 @@ relate_by found = relate_with (first_of (codes "polygons") found) (first_of (cod
 abbrev pub relate_asked : List (List ℕ) → Option RelateAsked
 relate_asked = asked_with relate_app relate_by
 
+-- ---- serve
+
+-- to answer the sessions of a script, which use one network over so many nodes and the calculus of a word
+pub record ServeAsked : Type 0 where
+  pub calculus : List ℕ
+  pub nodes : ℕ
+  pub workers : ℕ
+
+-- the words of `serve`: its name, a calculus, a number of nodes, and `--workers` with a number
+abbrev pub serve_app : App
+serve_app =
+    with_rule (with_rule (with_rule (new_app (codes "serve")) (word_rule (codes "calculus")))
+    (word_rule (codes "nodes"))) (option_rule (codes "workers"))
+
+-- with a calculus, a number of nodes and a number of workers, where there are all of them
+abbrev pub serve_with : Option (List ℕ) → Option ℕ → Option ℕ → Option ServeAsked
+serve_with calculus nodes workers = option_and_then (λ c. option_and_then (λ n. option_map (λ w.
+    record { calculus = c; nodes = n; workers = w }) workers) nodes) calculus
+
+abbrev pub serve_by : List Row → Option ServeAsked
+serve_by found =
+    serve_with (first_of (codes "calculus") found) (served_nodes_asked (first_of (codes "nodes") found))
+    (workers_asked (first_of (codes "workers") found))
+
+abbrev pub serve_asked : List (List ℕ) → Option ServeAsked
+serve_asked = asked_with serve_app serve_by
+
 -- ---- demo
 
 -- to show a search at work, on the relations of so many rectangles that a seed makes
@@ -248,6 +281,7 @@ pub data Asked : Type 0 where
   check : CheckAsked → Asked
   trace : CheckAsked → Asked
   relate : RelateAsked → Asked
+  serve : ServeAsked → Asked
   demo : DemoAsked → Asked
 
 -- what words of which the first is this ask for
@@ -258,7 +292,8 @@ command_by name words =
     else (if bytes_eq name (codes "check") then option_map check (check_asked words)
     else (if bytes_eq name (codes "trace") then option_map trace (check_asked words)
     else (if bytes_eq name (codes "relate") then option_map relate (relate_asked words)
-    else (if bytes_eq name (codes "demo") then option_map demo (demo_asked words) else None)))))
+    else (if bytes_eq name (codes "serve") then option_map serve (serve_asked words)
+    else (if bytes_eq name (codes "demo") then option_map demo (demo_asked words) else None))))))
 
 -- what the words after the test of each word ask for, by the first of them
 abbrev pub command_asked : List (List ℕ) → Option Asked

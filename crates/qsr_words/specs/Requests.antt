@@ -1,14 +1,15 @@
 -- Requests as the definitions see them.
 use Rattle.std.specs.Prelude.{◌≡◌, ℕ, ◌≤◌, ⊤, true, Option, Some, None, option_map}
 use Rattle.std.specs.String.{string_bytes}
-use Rattle.qsr_words.specs.Asked.{Asked, CloseAsked, SolveAsked, CheckAsked, RelateAsked, DemoAsked}
-use Rattle.qsr_words.specs.Asked.{close, solve, check, trace, relate, demo, class_fits, polygons_fit}
+use Rattle.qsr_words.specs.Asked.{Asked, CloseAsked, SolveAsked, CheckAsked, RelateAsked, ServeAsked, DemoAsked}
+use Rattle.qsr_words.specs.Asked.{close, solve, check, trace, relate, serve, demo, class_fits, polygons_fit}
 use Rattle.qsr_words.specs.declared.TheConstants.{MIN_WORKERS, MAX_WORKERS, MAX_BUDGET}
-use Rattle.qsr_words.specs.declared.TheConstants.{MAX_SEED, MIN_DEMO_NODES, MAX_DEMO_NODES}
+use Rattle.qsr_words.specs.declared.TheConstants.{MAX_SEED, MIN_DEMO_NODES, MAX_DEMO_NODES, MIN_SERVED_NODES, MAX_SERVED_NODES}
 use Rattle.qsr_words.specs.declared.close.Close.{Close}
 use Rattle.qsr_words.specs.declared.solve.Solve.{Solve}
 use Rattle.qsr_words.specs.declared.check.Check.{Check}
 use Rattle.qsr_words.specs.declared.relate.Relate.{Relate}
+use Rattle.qsr_words.specs.declared.serve.Serve.{Serve}
 use Rattle.qsr_words.specs.declared.demo.Demo.{Demo}
 use Rattle.qsr_words.specs.declared.reading.Request.{Request}
 use Rattle.qsr_words.specs.declared.reading.Request.TheVariants as request
@@ -36,6 +37,9 @@ check_of c = record {
 abbrev pub relate_of : Relate → RelateAsked
 relate_of r = record { polygons = string_bytes r.polygons; pattern = option_map string_bytes r.pattern }
 
+abbrev pub serve_of : Serve → ServeAsked
+serve_of s = record { calculus = string_bytes s.calculus; nodes = s.nodes; workers = s.workers }
+
 abbrev pub demo_of : Demo → DemoAsked
 demo_of d = record { seed = d.seed; nodes = d.nodes }
 
@@ -46,6 +50,7 @@ asked_of (request.Solve s) = Some (solve (solve_of s))
 asked_of (request.Check c) = Some (check (check_of c))
 asked_of (request.Trace c) = Some (trace (check_of c))
 asked_of (request.Relate r) = Some (relate (relate_of r))
+asked_of (request.Serve s) = Some (serve (serve_of s))
 asked_of (request.Demo d) = Some (demo (demo_of d))
 asked_of request.Usage = None
 
@@ -64,6 +69,12 @@ pub record IsSearch (asked : SolveAsked) : Type 0 where
 pub record IsCheck (asked : CheckAsked) : Type 0 where
   pub polygons : polygons_fit asked.calculus asked.polygons ≡ true
 
+-- sessions over a number of nodes and with workers within the limits
+pub record AreServed (asked : ServeAsked) : Type 0 where
+  pub some_nodes : MIN_SERVED_NODES ≤ asked.nodes
+  pub few_nodes : asked.nodes ≤ MAX_SERVED_NODES
+  pub workers : AreWorkers asked.workers
+
 -- a demonstration with a seed and a number of nodes within the limits
 pub record IsDemo (asked : DemoAsked) : Type 0 where
   pub seed : asked.seed ≤ MAX_SEED
@@ -79,6 +90,7 @@ FitsCalculus (Some (solve asked)) =
 FitsCalculus (Some (check asked)) = polygons_fit asked.calculus asked.polygons ≡ true
 FitsCalculus (Some (trace asked)) = polygons_fit asked.calculus asked.polygons ≡ true
 FitsCalculus (Some (relate asked)) = ⊤
+FitsCalculus (Some (serve asked)) = ⊤
 FitsCalculus (Some (demo asked)) = ⊤
 
 -- the request is within the limits of its command
@@ -88,5 +100,6 @@ IsWithinLimits (request.Solve s) = IsSearch (solve_of s)
 IsWithinLimits (request.Check c) = IsCheck (check_of c)
 IsWithinLimits (request.Trace c) = IsCheck (check_of c)
 IsWithinLimits (request.Relate r) = ⊤
+IsWithinLimits (request.Serve s) = AreServed (serve_of s)
 IsWithinLimits (request.Demo d) = IsDemo (demo_of d)
 IsWithinLimits request.Usage = ⊤

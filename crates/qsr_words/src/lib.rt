@@ -12,6 +12,7 @@ mod command;
 mod demo;
 mod reading;
 mod relate;
+mod serve;
 mod solve;
 #[cfg(test)]
 mod tests;
@@ -22,6 +23,7 @@ pub use close::Close;
 pub use demo::Demo;
 pub use reading::{Request, read};
 pub use relate::Relate;
+pub use serve::Serve;
 pub use solve::Solve;
 
 /// The least number of workers that a command takes.
@@ -47,3 +49,9 @@ pub const MIN_DEMO_NODES: u32 = 2;
 
 /// The greatest number of nodes of a demonstration.
 pub const MAX_DEMO_NODES: u32 = 256;
+
+/// The least number of nodes of the network that sessions use.
+pub const MIN_SERVED_NODES: u32 = 1;
+
+/// The greatest number of nodes of the network that sessions use.
+pub const MAX_SERVED_NODES: u32 = 256;

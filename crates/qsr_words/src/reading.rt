@@ -9,8 +9,9 @@ use crate::check::Check;
 use crate::close::Close;
 use crate::demo::Demo;
 use crate::relate::Relate;
+use crate::serve::Serve;
 use crate::solve::Solve;
-use crate::{check, close, demo, relate, solve};
+use crate::{check, close, demo, relate, serve, solve};
 use calculus_table::Memory;
 use std::alloc::Global;
 
@@ -27,6 +28,8 @@ pub enum Request {
     Trace(Check),
     /// To relate each two polygons.
     Relate(Relate),
+    /// To answer the sessions of a script.
+    Serve(Serve),
     /// To show a search at work.
     Demo(Demo),
     /// Nothing that there is: the usage line is the answer.
@@ -59,6 +62,7 @@ fn request_by(alloc: Global, name: &str, words: &[String]) -> Result<Request, Me
         "check" => check::read(alloc, words)?.map(Request::Check),
         "trace" => check::read(alloc, words)?.map(Request::Trace),
         "relate" => relate::read(alloc, words)?.map(Request::Relate),
+        "serve" => serve::read(alloc, words)?.map(Request::Serve),
         "demo" => demo::read(alloc, words)?.map(Request::Demo),
         _ => None,
     };

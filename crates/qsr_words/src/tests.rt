@@ -162,6 +162,30 @@ fn words_of_relate_are_taken(rt: HostRuntime) -> Result<(), Fail> {
 }
 
 #[test]
+fn words_of_serve_are_taken(rt: HostRuntime) -> Result<(), Fail> {
+    let alloc = rt.alloc();
+    // the words after `serve`, the calculus, the number of nodes, and the number of workers
+    let rows: [(&[&str], &str, u32, u32); 3] = [
+        (&["rcc8", "1"], "rcc8", 1, 4),
+        (&["--workers", "64", "t", "256"], "t", 256, 64),
+        (&["allen", "--workers=1", "03"], "allen", 3, 1),
+    ];
+    for (rest, calculus, nodes, workers) in rows.iter() {
+        let request = read(alloc, &owned(alloc, "serve", rest)?).map_err(|_| "memory")?;
+        let Request::Serve(serve) = request else {
+            return Err(Fail::from("no script"));
+        };
+        assert_eq!(rt; serve.calculus.as_str(), *calculus, "{rest:?}");
+        assert_eq!(rt;
+            (serve.nodes, serve.workers),
+            (*nodes, *workers),
+            "{rest:?}"
+        );
+    }
+    Ok(())
+}
+
+#[test]
 fn words_of_demo_are_taken(rt: HostRuntime) -> Result<(), Fail> {
     let alloc = rt.alloc();
     // the words after `demo`, the seed, and the number of nodes
@@ -183,7 +207,7 @@ fn words_of_demo_are_taken(rt: HostRuntime) -> Result<(), Fail> {
 #[test]
 fn other_words_ask_for_nothing(rt: HostRuntime) -> Result<(), Fail> {
     let alloc = rt.alloc();
-    let rows: [&[&str]; 38] = [
+    let rows: [&[&str]; 42] = [
         &[],
         &["--workers", "2", "close", "rcc8"],
         &["--help"],
@@ -214,6 +238,10 @@ fn other_words_ask_for_nothing(rt: HostRuntime) -> Result<(), Fail> {
         &["relate"],
         &["relate", "p", "q"],
         &["relate", "p", "--pattern", "-"],
+        &["serve", "rcc8"],
+        &["serve", "rcc8", "0"],
+        &["serve", "rcc8", "257"],
+        &["serve", "rcc8", "2", "--workers", "65"],
         &["demo", "0", "1"],
         &["demo", "4294967296", "2"],
         &["demo", "0", "257"],

@@ -3,13 +3,13 @@ ghost use Rattle.std.specs.Prelude.{◌≡◌, ◌≤◌, true, IfOk, IfSome, op
 ghost use Rattle.std.specs.String.{string_bytes};
 ghost use Rattle.qsr_words.specs.Asked.{number_within, workers_asked, budget_asked, is_rcc8_class};
 ghost use Rattle.qsr_words.specs.Asked.{class_fits, class_asked, usual_class, polygons_fit};
-ghost use Rattle.qsr_words.specs.Asked.{polygons_asked, seed_asked, nodes_asked};
+ghost use Rattle.qsr_words.specs.Asked.{polygons_asked, seed_asked, nodes_asked, served_nodes_asked};
 ghost use Rattle.qsr_words.specs.Asked.{is_flag_there};
 ghost use Rattle.qsr_words.specs.Requests.{AreWorkers};
 
 use crate::{
-    MAX_BUDGET, MAX_DEMO_NODES, MAX_SEED, MAX_WORKERS, MIN_DEMO_NODES, MIN_WORKERS, USUAL_BUDGET,
-    USUAL_WORKERS,
+    MAX_BUDGET, MAX_DEMO_NODES, MAX_SEED, MAX_SERVED_NODES, MAX_WORKERS, MIN_DEMO_NODES,
+    MIN_SERVED_NODES, MIN_WORKERS, USUAL_BUDGET, USUAL_WORKERS,
 };
 use qsr_lex::number;
 use std::alloc::{AllocError, Global};
@@ -89,6 +89,14 @@ pub(crate) fn demo_nodes(word: Option<&str>) -> Option<u32>
     ensures within { IfSome result (λ n. (MIN_DEMO_NODES ≤ n) × (n ≤ MAX_DEMO_NODES)) }
 {
     number_within(word?, MIN_DEMO_NODES, MAX_DEMO_NODES)
+}
+
+/// The number of nodes of the network that sessions use that a word is.
+pub(crate) fn served_nodes(word: Option<&str>) -> Option<u32>
+    ensures value { result ≡ served_nodes_asked (option_map (λ text. text.now) word.entry) }
+    ensures within { IfSome result (λ n. (MIN_SERVED_NODES ≤ n) × (n ≤ MAX_SERVED_NODES)) }
+{
+    number_within(word?, MIN_SERVED_NODES, MAX_SERVED_NODES)
 }
 
 /// Whether an option without a value is there, by the value that `clap` gives it.

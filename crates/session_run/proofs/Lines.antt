@@ -7,7 +7,7 @@ use Rattle.qsr_lex.specs.TextLines.{add_byte, text_lines, first_line, first_line
 use Rattle.qsr_lex.proofs.Scanning.{add_byte-lf}
 use Rattle.session_run.specs.Commands.{script_line}
 use Rattle.session_run.specs.Batches.{BatchState, with_line}
-use Rattle.session_run.specs.Scripts.{IsWholeLine, has_lf, has_commit, is_commit_line, batches_from, batches_of}
+use Rattle.session_run.specs.Scripts.{IsWholeLine, has_lf, is_commit_line, batches_from, batches_of, committed_from, committed_of}
 
 add-on : (b : ℕ) (l : List ℕ) (ls : List (List ℕ)) → is_lf b ≡ false → add_byte b (l ∷ ls) ≡ (b ∷ l) ∷ ls
 add-on b l ls e = rw e refl
@@ -46,9 +46,9 @@ text_lines-open (b ∷ c ∷ bs) some h =
     let first : is_lf b ≡ false = (or_parts (is_lf b) (has_lf (c ∷ bs)) h).0 in
     rw (text_lines-open (c ∷ bs) (omega arith) (or_parts (is_lf b) (has_lf (c ∷ bs)) h).1) (add-on b (c ∷ bs) [] first)
 
-pub has_commit-open : (bases : List (List ℕ)) (text : List ℕ) → has_lf text ≡ false → has_commit bases text ≡ false
-has_commit-open bases [] h = refl
-has_commit-open bases (b ∷ bs) h = rw (text_lines-open (b ∷ bs) (omega arith) h, h) refl
+pub committed-open : (bases : List (List ℕ)) (n at : ℕ) (batch : BatchState) (text : List ℕ) → has_lf text ≡ false → committed_from bases n at batch (text_lines text) ≡ []
+committed-open bases n at batch [] h = refl
+committed-open bases n at batch (b ∷ bs) h = rw (text_lines-open (b ∷ bs) (omega arith) h, h) refl
 
 pub first_line_len-open : (text : List ℕ) → has_lf text ≡ false → first_line_len text ≡ length text
 first_line_len-open [] h = refl
@@ -74,8 +74,14 @@ pub batches-commit : (bases : List (List ℕ)) (n at : ℕ) (batch : BatchState)
     batches_from bases n at batch (text_lines (line ++ rest)) ≡ batch ∷ batches_of bases n rest
 batches-commit bases n at batch line rest w e = rw (text_lines-whole line rest w, e) refl
 
-pub has_commit-line : (bases : List (List ℕ)) (line rest : List ℕ) → IsWholeLine line → is_commit_line (script_line bases line) ≡ false → has_commit bases (line ++ rest) ≡ has_commit bases rest
-has_commit-line bases line rest w e = rw (text_lines-whole line rest w, has_lf-whole line w, e) refl
+-- those of them that a line `commit` ends
+pub committed-line : (bases : List (List ℕ)) (n at : ℕ) (batch : BatchState) (line rest : List ℕ) → IsWholeLine line → is_commit_line (script_line bases line) ≡ false →
+    committed_from bases n at batch (text_lines (line ++ rest)) ≡ committed_from bases n (at + 1) (with_line n at (script_line bases line) batch) (text_lines rest)
+committed-line bases n at batch line rest w e = rw (text_lines-whole line rest w, has_lf-whole line w, e) refl
+
+pub committed-commit : (bases : List (List ℕ)) (n at : ℕ) (batch : BatchState) (line rest : List ℕ) → IsWholeLine line → is_commit_line (script_line bases line) ≡ true →
+    committed_from bases n at batch (text_lines (line ++ rest)) ≡ batch ∷ committed_of bases n rest
+committed-commit bases n at batch line rest w e = rw (text_lines-whole line rest w, has_lf-whole line w, e) refl
 
 pub has_lf-push : (bytes : List ℕ) (b : ℕ) → has_lf bytes ≡ false → is_lf b ≡ false → has_lf (bytes ++ b ∷ []) ≡ false
 has_lf-push [] b h e = rw e refl

@@ -3,3 +3,8 @@ pub mod CommandsRead
 pub mod Batches
 pub mod Scripts
 pub mod Readings
+pub mod Readers
+pub mod Replies
+pub mod Phase
+pub mod Steps
+pub mod Drafting

@@ -43,6 +43,13 @@ IsWholeLine (b ∷ bs) = MatchBool (is_lf b) (bs ≡ []) (IsWholeLine bs)
 abbrev pub is_whole_commit : List (List ℕ) → List ℕ → Bool
 is_whole_commit bases line = has_lf line && is_commit_line (script_line bases line)
 
--- so is one of the lines of a text
-abbrev pub has_commit : List (List ℕ) → List ℕ → Bool
-has_commit bases text = list_any (is_whole_commit bases) (text_lines text)
+-- the batches of lines that a line `commit` with its LF ends, of which the first goes on from `batch` and has the next line at `at`
+abbrev pub committed_from : List (List ℕ) → ℕ → ℕ → BatchState → List (List ℕ) → List BatchState
+committed_from bases n at batch [] = []
+committed_from bases n at batch (l ∷ ls) =
+    if is_whole_commit bases l then batch ∷ committed_from bases n 1 no_lines ls
+    else committed_from bases n (at + 1) (with_line n at (script_line bases l) batch) ls
+
+-- those of a text
+abbrev pub committed_of : List (List ℕ) → ℕ → List ℕ → List BatchState
+committed_of bases n text = committed_from bases n 1 no_lines (text_lines text)

@@ -85,9 +85,10 @@ impl Batch {
     ghost use Rattle.qsr_lex.specs.Names.{is_name};
     ghost use Rattle.session_run.specs.Commands.{HasName, HasSet, HasCommandSet};
     ghost use Rattle.session_run.specs.CommandsRead.{line_read};
-    ghost use Rattle.session_run.specs.Batches.{BatchState, IsBatchFor, no_lines, refusing, with_line, with_session};
+    ghost use Rattle.session_run.specs.Batches.{BatchState, IsBatch, IsBatchFor, no_lines, refusing, with_line, with_session};
     ghost use Rattle.session_run.specs.Batches.{what_of, line_at, IsLineFor};
     ghost use Rattle.calculus_table.specs.Names.{place_of};
+    ghost use Rattle.session_run.specs.Replies.{session_name};
 
     /// A batch without lines.
     pub(crate) fn new(alloc: Global) -> Batch
@@ -97,6 +98,23 @@ impl Batch {
             sessions: Vec::new(alloc),
             lines: Vec::new(alloc),
         }
+    }
+
+    /// The name of the session of a line; no text where the line is of none.
+    pub(crate) fn session(&self, line: &Line) -> &str
+        ensures { result.now ≡ session_name self.now.sessions line.now.session }
+    {
+        match self.sessions.get(line.session as usize) {
+            Some(name) => name,
+            None => "",
+        }
+    }
+
+    /// Does nothing. A proof learns by it how many sessions and lines there are at most.
+    pub(crate) fn limited(&self)
+        ensures { IsBatch self.now }
+    {
+        let _lines = &self.lines;
     }
 
     /// Adds a line, with this number in the batch, of a script over so many nodes.

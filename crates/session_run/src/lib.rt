@@ -1,21 +1,34 @@
 //! Scripts of the commands of sessions that use one network, cut into batches.
 //!
 //! ```text
-//! for batch in batches(alloc, script, &c, nodes)? { .. }     // `a assert 0 1 ( TPP )`, .. up to `commit`
+//! let mut reader = ScriptReader::new(alloc, limit)?;
+//! let batch = reader.next(&mut source, &c, nodes)?;     // `a assert 0 1 ( TPP )`, .. up to `commit`
 //! ```
 #![tactic(auto)]
 
 mod batch;
 mod commands;
+mod dealing;
+mod drafts;
+mod input;
 mod laws;
+mod opening;
+mod phase;
+mod pieces;
+mod points;
+mod reader;
 mod reading;
-mod scripts;
+mod replies;
+mod run;
+mod sessions;
+mod steps;
 #[cfg(test)]
 mod tests;
 
 pub use batch::{Batch, Line, What};
 pub use laws::limits_of_scripts;
-pub use scripts::batches;
+pub use reader::ScriptReader;
+pub use run::run_batch;
 
 /// The most bytes of a command line, without its end.
 pub const LONGEST_LINE: usize = 4096;
@@ -25,3 +38,6 @@ pub const MOST_LINES: usize = 4096;
 
 /// The most sessions of a batch.
 pub const MOST_SESSIONS: usize = 64;
+
+/// How many bytes of a script are read at once. Fewer than so many are taken after a `commit`.
+pub const PIECE: usize = 4096;

@@ -2,13 +2,13 @@
 //!
 //! A line is looked at as soon as its LF is there. The bytes after the last line that was looked at are searched for an
 //! LF once, however the text is cut into pieces, so the time is linear in the length of the text.
-ghost use Rattle.std.specs.Prelude.{◌≡◌, [], ◌∷◌, ◌+◌, ◌-◌, ◌<◌, ◌≤◌, ◌^◌, true, false, take, drop, length, IfOk, IfSome, OnOk, Ok, MatchOption};
-ghost use Rattle.std.specs.Prelude.{MatchBool};
+ghost use Rattle.std.specs.Prelude.{◌≡◌, ℕ, List, [], ◌∷◌, ◌+◌, ◌-◌, ◌<◌, ◌≤◌, ◌^◌, true, false, take, drop, length};
+ghost use Rattle.std.specs.Prelude.{IfOk, OnOk, Ok, MatchOption};
 ghost use Rattle.qsr_lex.specs.TextLines.{first_line, text_lines};
 ghost use Rattle.session_run.specs.Commands.{script_line};
 ghost use Rattle.session_run.specs.CommandsRead.{line_read};
-ghost use Rattle.session_run.specs.Batches.{with_line};
-ghost use Rattle.session_run.specs.Scripts.{has_lf, IsWholeLine, is_commit_line, batches_from, batches_of, last_batch};
+ghost use Rattle.session_run.specs.Batches.{with_line, IsBatchFor};
+ghost use Rattle.session_run.specs.Scripts.{has_lf, IsWholeLine, is_commit_line, batches_from, last_batch};
 ghost use Rattle.session_run.specs.Readings.{IsRead, IsCommitted};
 
 use crate::batch::Batch;
@@ -30,12 +30,28 @@ pub(crate) struct Reading {
     pub(crate) searched: usize,
 }
 
+impl Reading {
+    /// Nothing was read yet.
+    pub(crate) fn new(alloc: Global) -> Reading
+        ensures read { (bases : List (List ℕ)) (n : ℕ) (text : List ℕ) → IsRead bases n text result }
+        ensures from { result.from ≡ 0 }
+        ensures searched { result.searched ≡ 0 }
+    {
+        Reading {
+            batch: Batch::new(alloc),
+            at: 1,
+            from: 0,
+            searched: 0,
+        }
+    }
+}
+
 /// How many bytes the first line of a text has with its LF, if that is there. The first bytes were searched.
 fn line_len(text: &[u8], searched: usize) -> Option<usize>
     requires within { searched ≤ length text.now }
     requires none { has_lf (take searched text.now) ≡ false }
     ensures { MatchOption result (has_lf text.now ≡ false)
-        (λ len. (len ≤ length text.now) × IsWholeLine (take len text.now)) }
+        (λ len. (len ≤ length text.now) × (searched < len) × IsWholeLine (take len text.now)) }
 {
     for index in searched..text.len() {
         if text[index] == b'\n' {
@@ -72,6 +88,8 @@ fn read_line(
     ensures batch { result ≡ Ok false →
         reading.new.batch ≡ with_line nodes reading.old.at (script_line bases.now line.now) reading.old.batch }
     ensures at { result ≡ Ok false → reading.new.at ≡ reading.old.at + 1 }
+    ensures fits { OnOk result (IsBatchFor (2 ^ length bases.now - 1) nodes reading.old.batch →
+        IsBatchFor (2 ^ length bases.now - 1) nodes reading.new.batch) }
 {
     let said = script_line(line, bases);
     reading.from += line.len();
@@ -97,6 +115,8 @@ pub(crate) fn read_lines(
     ensures all { result ≡ Ok false → has_lf (drop reading.new.from text.now) ≡ false }
     ensures searched { result ≡ Ok false → reading.new.from + reading.new.searched ≡ length text.now }
     ensures committed { result ≡ Ok true → IsCommitted bases.now nodes text.now reading.new }
+    ensures after_searched { result ≡ Ok true →
+        reading.old.from + reading.old.searched < reading.new.from }
 {
     loop {
         let (_, rest) = text.split_at(reading.from);
@@ -126,56 +146,11 @@ pub(crate) fn read_last_line(
         batches_from bases.now nodes reading.old.at reading.old.batch (text_lines line.now) ≡ last_batch reading.new.batch }
     ensures committed { result ≡ Ok true →
         batches_from bases.now nodes reading.old.at reading.old.batch (text_lines line.now) ≡ reading.new.batch ∷ [] }
+    ensures fits { OnOk result (IsBatchFor (2 ^ length bases.now - 1) nodes reading.old.batch →
+        IsBatchFor (2 ^ length bases.now - 1) nodes reading.new.batch) }
 {
     if line.is_empty() {
         return Ok(false);
     }
     read_line(line, reading, bases, nodes)
-}
-
-/// The first batch of a text, and where its `commit` ends, if there is one.
-#[derive(Drop)]
-pub(crate) struct FirstBatch {
-    pub(crate) batch: Batch,
-    pub(crate) end: Option<usize>,
-}
-
-/// Reads the first batch of a text, up to a line `commit` or to the end.
-pub(crate) fn first_batch(
-    alloc: Global,
-    text: &[u8],
-    bases: &BaseNames<'_>,
-    nodes: u32,
-) -> Result<FirstBatch, Memory>
-    requires few { length text.now < 2 ^ 31 }
-    ensures some { IfOk result (λ first. IfSome first.end (λ end. 0 < end)) }
-    ensures batch { IfOk result (λ first. MatchOption first.end
-        (batches_of bases.now nodes text.now ≡ last_batch first.batch)
-        (λ end. (end ≤ length text.now) × (batches_of bases.now nodes text.now
-        ≡ first.batch ∷ batches_of bases.now nodes (drop end text.now)))) }
-{
-    let mut reading = Reading {
-        batch: Batch::new(alloc),
-        at: 1,
-        from: 0,
-        searched: 0,
-    };
-    let committed = read_lines(text, &mut reading, bases, nodes)?;
-    if committed {
-        return Ok(FirstBatch {
-            batch: reading.batch,
-            end: Some(reading.from),
-        });
-    }
-    let (_, line) = text.split_at(reading.from);
-    if read_last_line(line, &mut reading, bases, nodes)? {
-        return Ok(FirstBatch {
-            batch: reading.batch,
-            end: Some(text.len()),
-        });
-    }
-    Ok(FirstBatch {
-        batch: reading.batch,
-        end: None,
-    })
 }

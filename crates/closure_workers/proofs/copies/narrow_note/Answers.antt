@@ -1,4 +1,3 @@
-use Rattle.closure_workers.proofs.Looks.{ReadsAll-refl}
 use Rattle.closure_workers.proofs.copies.narrow_note.Goals as goal
 
 pub returns-clause-reads : goal.returns-clause-reads

@@ -1,6 +1,5 @@
-use Rattle.std.proofs.Common.{◌≡◌, ◌+◌, ◌-◌, ◌/◌, ◌++◌, ◌∷◌, [], List, length, ap, sym, subst, ◌∙◌, arith, length-append}
+use Rattle.std.proofs.Common.{◌≡◌, ◌+◌, ◌-◌, ◌++◌, ◌∷◌, [], List, length, ap, sym, subst, ◌∙◌, arith, length-append}
 use Rattle.std.specs.List.{All}
-use Rattle.std.proofs.Math.Nat.{div-le_self}
 use Rattle.std.proofs.lemmas.List.Elements.{All-push}
 use Rattle.narrow_core.specs.Actor.{ActorState, fresh, giving}
 use Rattle.edge_table.specs.Opening.{algebra_of}
@@ -9,21 +8,13 @@ use Rattle.closure_workers.specs.Pieces.{IsPieceOf, AreDealt}
 use Rattle.closure_workers.proofs.OneRound.{AreDealt-push}
 use Rattle.closure_workers.proofs.pieces.deal.Goals as goal
 
-pub overflow_add-to : goal.overflow_add-to
-overflow_add-to c =
-    let part = div-le_self (c.args.edges - c.loop-number.from) (c.args.count - c.loop-number.number) in
-    let below = c.loop-number.invariant.below in
-    let edges = c.requires.edges in
-    let fits = c.ranges.edges.fits in
-    omega arith
-
 pub loop-number-preserved : goal.loop-number-preserved
 loop-number-preserved c =
     let h = c.loop-number.invariant in
     let table = c.args.table.now in
     let number = c.loop-number.number in
     let from = c.loop-number.from in
-    let to = from + (c.args.edges - from) / (c.args.count - number) in
+    let to = c.slice_end-to.result in
     let piece = c.in_ok-piece.piece in
     let old = c.loop-number.pieces.items in
     let items : c.push.new.self.items ≡ old ++ piece ∷ [] = c.in-Ok.ensures.items in
@@ -34,6 +25,6 @@ loop-number-preserved c =
       held = c.next_held-held.ensures.rest (algebra_of table.opening) h.held;
       dealt = subst (λ (ps : List Piece). AreDealt ps to) (sym items) (AreDealt-push old piece from to h.dealt c.in_ok-piece.ensures.from c.in_ok-piece.ensures.to);
       length_is = ap length items ∙ (let l = length-append old (piece ∷ []) in let k = h.length_is in omega arith);
-      below = (let part = div-le_self (c.args.edges - from) (c.args.count - number) in let b = h.below in let e = c.requires.edges in omega arith);
-      end = λ last. (let one : c.args.count - number ≡ 1 = omega arith in let b = h.below in let e = c.requires.edges in rw one (omega arith));
+      below = (let b = c.slice_end-to.ensures.below in let e = c.requires.edges in omega arith);
+      end = λ last. c.slice_end-to.ensures.last (omega arith) ∙ c.requires.edges;
     }

@@ -10,7 +10,7 @@ use Rattle.closure_workers.specs.declared.pieces.Piece.{Piece}
 use Rattle.edge_table.specs.Opening.{algebra_of}
 use Rattle.closure_seq.specs.Copies.{CopyState}
 use Rattle.closure_workers.specs.Slices.{IsHeld}
-use Rattle.closure_workers.specs.Pieces.{IsPieceOf, AreHeld, IsBetween}
+use Rattle.closure_workers.specs.Pieces.{IsPieceOf, AreHeld, IsBetween, HasSeen}
 use Rattle.narrow_core.proofs.Sights.{met-within_l, met-within_r}
 use Rattle.closure_workers.proofs.pieces.gather.Goals as goal
 
@@ -23,7 +23,6 @@ loop-piece-preserved c =
     let items : c.loop-piece.pieces.items ≡ left ++ piece ∷ [] = c.in-Some.ensures.items in
     let own = All-pop (IsPieceOf table) c.loop-piece.pieces.items left (Some piece) items h.left in
     let shown = All-pop (λ (p : Piece). p.snap ≡ p.pass.actor.seen) c.loop-piece.pieces.items left (Some piece) items h.seen in
-    let snaps : c.push.new.self.items ≡ c.loop-piece.snaps.items ++ piece.snap ∷ [] = c.in-Ok.ensures.items in
     let all = c.loop-piece.all.actor in
     let joined = c.join-all.ensures.actor in
     let seen : c.join-all.result.actor.seen ≡ met_words all.seen piece.pass.actor.seen = ap (λ (a : ActorState). a.seen) joined in
@@ -41,14 +40,13 @@ loop-piece-preserved c =
       facts = ap (λ (a : ActorState). a.mine) joined ∙ ap₂ ◌++◌ h.facts own.1.facts;
       left = own.0;
       seen = shown.0;
-      between = subst (λ (ss : List (List ℕ)). All (IsBetween c.join-all.result.actor.seen opening) ss) (sym snaps)
-          (All-push (IsBetween c.join-all.result.actor.seen opening) c.loop-piece.snaps.items piece.snap
+      between = c.in_ok-keep_snap.ensures.between c.join-all.result.actor.seen opening
           (All-weaker (IsBetween all.seen opening) (IsBetween c.join-all.result.actor.seen opening)
-          (λ s b. record { length_is = b.length_is; within = b.within; contains = Refines-trans c.join-all.result.actor.seen all.seen s less b.contains }) c.loop-piece.snaps.items h.between) last);
-      held = subst (λ (hs : List (Option CopyState)). AreHeld (algebra_of table.opening) hs) (sym c.in-Ok-push.ensures.items) (All-push (IsHeld (algebra_of table.opening)) c.loop-piece.helds.items piece.held h.held own.1.held);
+          (λ s b. record { length_is = b.length_is; within = b.within; contains = Refines-trans c.join-all.result.actor.seen all.seen s less b.contains }) c.loop-piece.snaps.items h.between) last;
+      held = subst (λ (hs : List (Option CopyState)). AreHeld (algebra_of table.opening) hs) (sym c.in-Ok.ensures.items) (All-push (IsHeld (algebra_of table.opening)) c.loop-piece.helds.items piece.held h.held own.1.held);
       each = λ words same rest.
-          let parts = All-pop (λ (s : List ℕ). s ≡ words) c.push.new.self.items c.loop-piece.snaps.items (Some piece.snap) snaps same in
-          h.each words parts.0 (subst (λ (ps : List Piece). All (λ (p : Piece). p.snap ≡ words) ps) (sym items) (All-push (λ (p : Piece). p.snap ≡ words) left piece rest parts.1));
+          let parts = c.in_ok-keep_snap.ensures.each words same in
+          h.each words parts.0 (subst (λ (ps : List Piece). All (HasSeen words) ps) (sym items) (All-push (HasSeen words) left piece rest parts.1));
     }
 
 pub returns-clause-each : goal.returns-clause-each

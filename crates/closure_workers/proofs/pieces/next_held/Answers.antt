@@ -1,7 +1,5 @@
-use Rattle.std.proofs.Common.{List}
-use Rattle.std.specs.Prelude.{Option, Some}
+use Rattle.std.specs.Prelude.{Some}
 use Rattle.std.proofs.lemmas.List.Elements.{All-pop}
-use Rattle.closure_seq.specs.Copies.{CopyState}
 use Rattle.closure_workers.specs.Slices.{IsHeld}
 use Rattle.closure_workers.proofs.pieces.next_held.Goals as goal
 

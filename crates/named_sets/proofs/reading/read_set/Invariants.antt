@@ -1,4 +1,4 @@
-use Rattle.std.proofs.Common.{◌≡◌, ◌-◌, ◌^◌, length, IfSome}
+use Rattle.std.proofs.Common.{◌≡◌, ◌-◌, ◌^◌, Some, length}
 use Rattle.calculus_table.specs.Rel.{IsWithin}
 use Rattle.qsr_lex.specs.LineTokens.{names_until_close}
 use Rattle.named_sets.specs.Named.{set_at}
@@ -7,8 +7,8 @@ use Rattle.named_sets.proofs.reading.read_set.Given as goal
 
 abbrev pub invariant-loop-token : goal.invariant-loop-token
 invariant-loop-token l = record {
-  told : with_members l.bases l.set (names_until_close l.tokens) ≡ set_at l.bases l.fn.tokens;
-  within : IfSome l.set (λ a. IsWithin a (2 ^ length l.bases - 1));
+  told : with_members l.bases (Some l.set) (names_until_close l.tokens) ≡ set_at l.bases l.fn.tokens;
+  within : IsWithin l.set (2 ^ length l.bases - 1);
 }
 
 abbrev pub decreases-loop-token : goal.decreases-loop-token

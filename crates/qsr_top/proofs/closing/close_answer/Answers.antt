@@ -23,7 +23,7 @@ pub returns-in-Ok : goal.returns-in-Ok
 returns-in-Ok g c =
     read_answered g.F.Source.documents g.F.Source.faults g.F.Source.given g.F.Source.absent_openings g.S.Source.left g.S.Source.faults g.S.Source.given
     (close (close_of c.args.request.now)) refl c.args.shelf.now c.calculus.new.shelf c.args.source.now c.network.new.source c.in_ok-calculus.calculus
-    (rw c.as_str.ensures.value at c.in_ok-calculus.ensures) c.in_ok-net.net c.in_ok-net.ensures.source c.in-Ok.answer c.in-Ok.ensures
+    (rw c.as_str.ensures.value at c.in_ok-calculus.ensures) c.in_ok-net.net c.in_ok-net.ensures.source refl c.in-Ok.answer c.in-Ok.ensures
 
 pub returns : goal.returns
 returns g c =

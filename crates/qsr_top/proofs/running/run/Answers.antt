@@ -1,28 +1,50 @@
-use Rattle.std.proofs.Common.{map, Err, ap, subst, sym}
+use Rattle.std.proofs.Common.{map}
 use Rattle.std.specs.String.{string_bytes}
 use Rattle.qsr_words.specs.Asked.{asked_by}
-use Rattle.qsr_top.specs.Told.{WhereTold}
-use Rattle.qsr_top.specs.SinkAfter.{LeavesInSink}
-use Rattle.qsr_top.proofs.Answering.{written_answer, written_by_status, written_end, stopped_answer}
+use Rattle.qsr_top.proofs.Answering.{memory_runs}
 use Rattle.qsr_top.proofs.running.run.Goals as goal
 
-pub returns-in-Ok-clause-output : goal.returns-in-Ok-clause-output
-returns-in-Ok-clause-output g c =
-    written_answer (asked_by (map string_bytes c.args.words.now)) _ _ (string_bytes c.in-Ok.answer.text) c.in-Ok.answer.status c.write_answer.result _ _
-    c.in-Ok.ensures.written c.write_answer.ensures.written _ _ c.in-Ok.ensures.output
+pub returns-in-Ok : goal.returns-in-Ok
+returns-in-Ok g c = let r = rw c.in-Ok.ensures.asked at c.run_request.ensures in record {
+  output = r.output;
+  by_status = r.by_status;
+  usage_part = r.usage_part;
+  status = r.status;
+  read_fault = r.read_fault;
+  write_fault = r.write_fault;
+  read_faults_are_told = r.read_faults_are_told;
+  write_faults_are_told = r.write_faults_are_told;
+  too_long = r.too_long;
+  above = r.above;
+  source_waits = r.source_waits;
+  shelf_stays = r.shelf_stays;
+  ends = r.ends;
+  documents_stay = r.documents_stay;
+  absent_openings_stay = r.absent_openings_stay;
+  shelf_faults = r.shelf_faults;
+  source_faults = r.faults_of_source;
+  sink_faults = r.faults_of_sink;
+}
 
-pub returns-in-Ok-clause-by_status : goal.returns-in-Ok-clause-by_status
-returns-in-Ok-clause-by_status g c =
-    written_by_status (asked_by (map string_bytes c.args.words.now)) _ _ (string_bytes c.in-Ok.answer.text) c.in-Ok.answer.status c.write_answer.result _ _
-    c.in-Ok.ensures.written c.write_answer.ensures.written
-
-pub returns-in-Ok-clause-status : goal.returns-in-Ok-clause-status
-returns-in-Ok-clause-status g c =
-    written_end (asked_by (map string_bytes c.args.words.now)) _ _ (string_bytes c.in-Ok.answer.text) c.in-Ok.answer.status c.write_answer.result _ _
-    c.in-Ok.ensures.written c.write_answer.ensures.written
-
-pub returns-in-Err-clause-output : goal.returns-in-Err-clause-output
-returns-in-Err-clause-output g c =
-    subst (λ r. WhereTold (asked_by (map string_bytes c.args.words.now)) (g.F.Source.documents c.args.shelf.now) (g.S.Source.left c.args.source.now)
-    (λ d b. LeavesInSink (asked_by (map string_bytes c.args.words.now)) d b (g.W.Sink.held c.args.sink.now) (g.W.Sink.held c.args.sink.now) r))
-    (sym c.end_of_stop.ensures) (stopped_answer (asked_by (map string_bytes c.args.words.now)) (g.F.Source.documents c.args.shelf.now) (g.S.Source.left c.args.source.now) (g.W.Sink.held c.args.sink.now) c.in-Err.stop (λ e. c.in-Err.ensures.long_output (ap Err e)))
+pub returns-in-Err : goal.returns-in-Err
+returns-in-Err g c = let r = memory_runs g.F.Source.documents g.F.Source.faults g.F.Source.given g.F.Source.absent_openings g.S.Source.left g.S.Source.faults g.S.Source.given g.W.Sink.held g.W.Sink.faults
+    c.args.shelf.now c.args.source.now (asked_by (map string_bytes c.args.words.now)) c.args.sink.now in record {
+      output = r.output;
+      by_status = r.by_status;
+      usage_part = r.usage_part;
+      status = r.status;
+      read_fault = r.read_fault;
+      write_fault = r.write_fault;
+      read_faults_are_told = r.read_faults_are_told;
+      write_faults_are_told = r.write_faults_are_told;
+      too_long = r.too_long;
+      above = r.above;
+      source_waits = r.source_waits;
+      shelf_stays = r.shelf_stays;
+      ends = r.ends;
+      documents_stay = r.documents_stay;
+      absent_openings_stay = r.absent_openings_stay;
+      shelf_faults = r.shelf_faults;
+      source_faults = r.faults_of_source;
+      sink_faults = r.faults_of_sink;
+    }

@@ -27,7 +27,7 @@ returns-in-Ok g c =
     let known = rw (← c.guided.view_is) at (rw (← c.searched.view_is) at c.in_ok-searched.ensures.given) in
     read_answered g.F.Source.documents g.F.Source.faults g.F.Source.given g.F.Source.absent_openings g.S.Source.left g.S.Source.faults g.S.Source.given
     (solve (solve_of c.args.request.now)) refl c.args.shelf.now c.read_searched.new.shelf c.args.source.now c.placed_network.new.source given known
-    c.in_ok-net.net c.in_ok-net.ensures.source c.in-Ok.answer (rw (← c.guided.view_is) at c.in-Ok.ensures)
+    c.in_ok-net.net c.in_ok-net.ensures.source refl c.in-Ok.answer (rw (← c.guided.view_is) at c.in-Ok.ensures)
 
 pub returns : goal.returns
 returns g c =

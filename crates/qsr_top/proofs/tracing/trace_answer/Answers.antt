@@ -24,7 +24,7 @@ pub returns-in-Ok : goal.returns-in-Ok
 returns-in-Ok g c =
     read_answered g.F.Source.documents g.F.Source.faults g.F.Source.given g.F.Source.absent_openings g.S.Source.left g.S.Source.faults g.S.Source.given
     (trace (check_of c.args.request.now)) refl c.args.shelf.now c.read_claimed.new.shelf c.args.source.now c.placed_network.new.source (the_view c.claimed.inside)
-    (rw (← c.claimed.view_is) at c.in_ok-claimed.ensures.given) c.in_ok-net.net c.in_ok-net.ensures.source c.in-Ok.answer
+    (rw (← c.claimed.view_is) at c.in_ok-claimed.ensures.given) c.in_ok-net.net c.in_ok-net.ensures.source refl c.in-Ok.answer
     (rw (← c.claimed.view_is) at c.in-Ok.ensures)
 
 pub returns : goal.returns

@@ -7,4 +7,4 @@ pub returns-then-text-index-eq10 : goal.returns-then-text-index-eq10
 returns-then-text-index-eq10 c =
     let text = c.args.text.now in
     let index = c.loop-index.index in
-    (omega arith, rw (take_more text index 0 (omega arith), c.if-text-index-eq10.true) (IsWholeLine-found (take index text) 10 c.loop-index.invariant refl))
+    (omega arith, omega arith, rw (take_more text index 0 (omega arith), c.if-text-index-eq10.true) (IsWholeLine-found (take index text) 10 c.loop-index.invariant refl))

@@ -1,29 +1,14 @@
-use Rattle.std.proofs.Common.{sym, ◌∙◌, subst}
-use Rattle.network_words.specs.Network.{IsNetwork}
-use Rattle.closure_seq.specs.Worklist.{Worklist}
-use Rattle.closure_seq.specs.Propagation.{IsInStep}
-use Rattle.closure_seq.specs.Copies.{CopyState, AreRowsOf}
-use Rattle.closure_seq.proofs.Loads.{AreConverses-in_step}
-use Rattle.closure_seq.proofs.Starts.{IsSettled-begun}
+use Rattle.std.proofs.Common.{ℕ, sym, subst}
+use Rattle.closure_seq.specs.Worklist.{IsBegun}
+use Rattle.closure_seq.specs.Copies.{CopyState, IsCopyOf}
+use Rattle.closure_seq.proofs.Copies.{IsSettledCopy-begun}
 use Rattle.closure_seq.proofs.copy.SliceCopy.begin.Goals as goal
 
 pub returns-clause-settled : goal.returns-clause-settled
 returns-clause-settled g c =
     let m = g.C.Compose.algebra c.args.c.now in
-    let words = c.args.words.now in
-    let n = c.self.inside.pairs.nodes in
-    let work = c.load_planes.new.pairs in
-    let rows = c.rows_of-self-inside in
-    let l = c.load_planes.ensures in
-    let start : IsInStep m n words work = subst (λ (y : Worklist). IsInStep m y.nodes words work) c.forget_notes.ensures l.in_step in
-    let net : IsNetwork m n words = subst (λ (y : CopyState). IsNetwork m y.slice.nodes words) (sym c.self.view_is) c.requires.network in
-    let sets = AreConverses-in_step m n words work l.calculus net start in
-    record {
-      calculus = l.calculus;
-      planes = l.planes;
-      enough = l.enough;
-      tables = l.tables;
-      sets = sets;
-      settled = IsSettled-begun m rows.result work l.calculus sets l.begun;
-      rows = subst (λ k. AreRowsOf k c.args.from c.args.to rows.result) (c.nodes.ensures.value ∙ sym start.nodes) rows.ensures;
-    }
+    let own = c.self.inside in
+    let copy : CopyState = record { slice = record { nodes = own.pairs.nodes; from = own.from; to = own.to }; rows = own.rows; work = own.pairs; bases = own.tables.bases } in
+    let work = c.push_lesser.new.self in
+    IsSettledCopy-begun m c.args.words.now copy work (subst (IsCopyOf m c.args.words.now) (sym c.self.view_is) c.take_over.ensures.copy) c.push_lesser.ensures.rest
+    (subst (λ (full : ℕ). IsBegun work full work.nodes) c.full.ensures c.push_lesser.ensures.begun)

@@ -1,6 +1,6 @@
 use Rattle.std.proofs.Common.{map, string_bytes}
 use Rattle.std.proofs.lemmas.List.{map_push}
-use Rattle.session_run.proofs.Sessions.{IsBatch-session}
+use Rattle.session_run.proofs.NamedSessions.{IsBatch-session}
 use Rattle.session_run.proofs.batch.Batch.add_session.Goals as goal
 
 pub invariant_of-self-2 : goal.invariant_of-self-2

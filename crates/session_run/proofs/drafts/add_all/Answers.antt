@@ -1,0 +1,9 @@
+use Rattle.std.proofs.Common.{◌≤◌, length, arith}
+use Rattle.session_run.proofs.FactsOfLines.{GainsFacts-looped}
+use Rattle.session_run.proofs.drafts.add_all.Goals as goal
+
+pub returns-clause-gains : goal.returns-clause-gains
+returns-clause-gains c =
+    let batch = c.args.batch.now in
+    let ended : length batch.lines ≤ c.loop-line.line-index = rw (← c.batch.view_is, ← c.deref-line-items.ensures.value) (omega arith) in
+    GainsFacts-looped batch.sessions batch.lines c.loop-line.line-index c.args.draft.now c.loop-line.draft ended c.loop-line.invariant.draft
