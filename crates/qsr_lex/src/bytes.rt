@@ -21,6 +21,7 @@ pub(crate) fn is_plain(byte: u8) -> bool
 pub(crate) fn is_word_byte(byte: u8) -> bool
     ensures { result ≡ is_word_byte byte }
 {
-    // Letters pass the first test.
-    byte > b':' || !matches!(byte, b' ' | b'\t' | b'(' | b')' | b',' | b':' | b'#')
+    // Letters and digits pass the first test.
+    (byte > b',' && byte != b':')
+        || !matches!(byte, b' ' | b'\t' | b'(' | b')' | b',' | b':' | b'#')
 }

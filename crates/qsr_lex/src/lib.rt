@@ -16,6 +16,7 @@ mod bytes;
 mod laws;
 mod names;
 mod numbers;
+mod plain;
 mod reading;
 mod scan;
 #[cfg(test)]

@@ -4,15 +4,15 @@
 //! the line's end and may hold any bytes. What stands before is cut into tokens from the left: `(`, `)`, `,`, `::`,
 //! `:`, and words, the longest runs of bytes that are neither blank nor one of these marks nor `#`.
 //!
-//! `first_line` goes over a line once: up to the first byte that is `#` or not allowed outside comments. That byte is
-//! the line's end, or a comment, which is passed over, or the line can't be read. Each byte of a token is read once
+//! `first_line` goes over a line once: up to the first byte that is `#` or not allowed outside comments, 16 bytes at a
+//! time (`plain.rt`). That byte is the line's end, or a comment, which is passed over, or the line can't be read. Each byte of a token is read once
 //! more where it is cut. Every loop goes forward through the text, so its end is in sight and the time is linear in its
 //! length; only `lines`, which returns all tokens at once, takes memory.
 ghost use Rattle.std.specs.Prelude.{◌≡◌, ◌≤◌, ◌<◌, ◌+◌, ◌++◌, length, IfOk, IfSome, OnOk, IfErr, MatchOption};
 ghost use Rattle.std.specs.Prelude.{MatchResult, Some, None, false, if◌then◌else◌};
 ghost use Rattle.qsr_lex.specs.declared.tokens.TokenKind.TheVariants.{Colon, Colons};
 ghost use Rattle.std.specs.List.{prefix_len};
-ghost use Rattle.qsr_lex.specs.Bytes.{is_plain, is_word_byte};
+ghost use Rattle.qsr_lex.specs.Bytes.{is_word_byte};
 ghost use Rattle.qsr_lex.specs.TextLines.{line_count, first_line, first_line_len, after_end, is_clean, bad_line};
 ghost use Rattle.qsr_lex.specs.TextLines.{IsFirstLine};
 ghost use Rattle.qsr_lex.specs.Lexemes.{starts_with_colon, tail_len, kind_of};
@@ -21,7 +21,8 @@ ghost use Rattle.qsr_lex.specs.TokenLines.{by_line, token_lines};
 ghost use Rattle.qsr_lex.specs.Stops.{IsStopOf};
 ghost use Rattle.qsr_lex.specs.declared.TheConstants.{MAX_TEXT};
 
-use crate::bytes::{is_blank, is_plain, is_word_byte};
+use crate::bytes::{is_blank, is_word_byte};
+use crate::plain::plain_len;
 use crate::tokens::{LexStop, Lines, Token, TokenKind};
 use std::alloc::{AllocError, Global};
 
@@ -81,14 +82,6 @@ pub fn first_line(text: &[u8]) -> Option<FirstLine<'_>>
     let (part, end) = text.split_at(plain_len(text));
     let after = after_end(end)?;
     Some(FirstLine { part, after })
-}
-
-/// How many bytes at the front are allowed and begin no comment.
-fn plain_len(text: &[u8]) -> usize
-    ensures value { result ≡ prefix_len is_plain text.now }
-    ensures bound { result ≤ length text.now }
-{
-    text.iter().take_while(|byte| is_plain(**byte)).count()
 }
 
 /// What stands after the end of a line that begins here, with a comment before it or without.
