@@ -106,45 +106,45 @@ fn take(path: &mut ClosedPath, step: Step) -> Result<(), Memory> {
     Ok(())
 }
 
-/// A set's least member, and the others.
-fn split(word: Rel) -> Option<(Rel, Rel)> {
-    if word.is_empty() {
-        return None;
-    }
-    let least = word.least();
-    Some((Rel::single(least), without(word, least)))
+/// A set's least member alone.
+fn first_of(word: Rel) -> Rel {
+    if word.is_empty() { word } else { Rel::single(word.least()) }
 }
 
-/// The next edge of more than one base relation from `from` on, with its least one and the others.
-fn next_split(path: &ClosedPath, from: u32) -> Option<(u32, Rel, Rel)> {
-    if path.is_empty() {
-        return None;
-    }
-    let edge = open_edge(path, from)?;
-    if edge >= path.edges() {
-        return None;
-    }
-    let (first, others) = split(path.word(edge))?;
-    Some((edge, first, others))
+/// A set without its least member.
+fn others_of(word: Rel) -> Rel {
+    if word.is_empty() { word } else { without(word, word.least()) }
+}
+
+/// The set of an edge.
+fn word_of(path: &ClosedPath, edge: u32) -> Rel {
+    if edge < path.edges() { path.word(edge) } else { Rel::EMPTY }
+}
+
+/// The next edge of more than one base relation from `from` on, where no set is empty.
+fn next_open(path: &ClosedPath, from: u32) -> Option<u32> {
+    if path.is_empty() { None } else { open_edge(path, from) }
 }
 
 /// So many steps of a search. For each level it keeps what is still to be tried in its place.
 fn steps_of(alloc: Global, path: &mut ClosedPath, count: u32) -> Result<Vec<Step>, Memory> {
     let mut steps = Vec::new(alloc);
-    let mut untried: Vec<Option<(u32, Rel)>> = Vec::new(alloc);
-    let mut next: Option<(u32, Rel)> = None;
+    let mut untried: Vec<Step> = Vec::new(alloc);
+    let mut next = Step::Back;
     let mut from = 0;
     for _ in 0..count {
-        let step = if let Some((edge, set)) = next {
-            untried.push(None).map_err(|_| Memory)?;
-            next = None;
-            Step::Narrow { edge, set }
-        } else if let Some((edge, set, others)) = next_split(path, from) {
-            untried.push(Some((edge, others))).map_err(|_| Memory)?;
+        let step = if let Step::Narrow { .. } = next {
+            untried.push(Step::Back).map_err(|_| Memory)?;
+            let narrowing = next;
+            next = Step::Back;
+            narrowing
+        } else if let Some(edge) = next_open(path, from) {
+            let word = word_of(path, edge);
+            untried.push(Step::Narrow { edge, set: others_of(word) }).map_err(|_| Memory)?;
             from = edge.wrapping_mul(40_503).wrapping_add(7) % 8_128;
-            Step::Narrow { edge, set }
+            Step::Narrow { edge, set: first_of(word) }
         } else {
-            next = untried.pop().unwrap_or(None);
+            next = untried.pop().unwrap_or(Step::Back);
             Step::Back
         };
         steps.push(step).map_err(|_| Memory)?;

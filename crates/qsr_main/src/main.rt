@@ -4,9 +4,20 @@
 use qsr_outside::NoGate;
 use qsr_real::{FileShelf, StdSink, StdSource};
 use qsr_top::{Status, run};
+use std::alloc::Global;
 use std::process::ExitCode;
 use std::rt::Env;
 use std::{env, io};
+
+/// The bytes of the block that is freed so that the allocator keeps others.
+const KEPT: usize = 16 << 20;
+
+/// Has glibc's allocator keep memory that is freed: it keeps as much as twice the largest block that it gave back. Else
+/// each batch of a script would give its pages back, and the next one would ask for them again.
+fn keep_freed_memory(alloc: Global) {
+    let block: Result<Vec<u8>, _> = Vec::with_capacity(alloc, KEPT);
+    drop(block);
+}
 
 /// The arguments after the program's name.
 fn arguments(rt: &(impl Env + AllocGlobal)) -> io::Result<Vec<String>> {
@@ -18,6 +29,7 @@ fn arguments(rt: &(impl Env + AllocGlobal)) -> io::Result<Vec<String>> {
 }
 
 fn main(rt: HostRuntime) -> ExitCode {
+    keep_freed_memory(rt.alloc());
     let words = match arguments(&rt) {
         Ok(words) => words,
         Err(error) if error.kind() == io::ErrorKind::OutOfMemory => {

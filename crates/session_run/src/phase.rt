@@ -24,7 +24,7 @@ ghost use Rattle.session_run.specs.Phase.{IsStepFor, steps_of, shown_by, asked_o
 ghost use Rattle.session_run.specs.Phase.{IsSession, HasRun, asked_of_sessions, IsPiece, HasWorked};
 ghost use Rattle.session_run.specs.Phase.{AreNarrowed, IsClosureWithin};
 
-use crate::pieces::{Piece, deal_pieces, gather_pieces, run_pieces};
+use crate::pieces::{Piece, deal_pieces, gather_pieces, run_pieces, sharing};
 use crate::points::Points;
 use crate::sessions::{Session, deal_sessions, gather_sessions, run_sessions};
 use crate::steps::Step;
@@ -71,14 +71,16 @@ pub(crate) fn narrow_together<R: Threads + Sync, C: Compose + Sync, G: Gate + Sy
         (shown_by steps))
         (steps_of done.items)) }
 {
-    let count = workers.min(net.edges()).max(1);
-    let (done, copies) = narrow_at_once(rt, alloc, net, closed, c, lines, count, gate)?;
-    close_held(rt, alloc, net, c, workers, gate, copies)?;
+    let workers = workers.min(net.edges()).max(1);
+    let count = sharing(net.edges(), workers);
+    let idle = workers - count;
+    let (done, copies) = narrow_at_once(rt, alloc, net, closed, c, lines, count, idle, gate)?;
+    close_held(rt, alloc, net, c, count, gate, copies)?;
     Ok(done)
 }
 
-/// Narrows the network by the sessions and so many pieces at once. Returns the lines of the sessions as they were
-/// taken, and the copies of the pieces.
+/// Narrows the network by the sessions and so many pieces at once, while so many workers more have no edges. Returns the
+/// lines of the sessions as they were taken, and the copies of the pieces.
 fn narrow_at_once<R: Threads + Sync, C: Compose + Sync, G: Gate + Sync>(
     rt: &R,
     alloc: Global,
@@ -87,6 +89,7 @@ fn narrow_at_once<R: Threads + Sync, C: Compose + Sync, G: Gate + Sync>(
     c: &C,
     lines: Vec<Vec<Step>>,
     count: u32,
+    idle: u32,
     gate: &G,
 ) -> Result<(Vec<Vec<Step>>, Vec<Option<SliceCopy>>), Memory>
     requires network { IsNetwork (C.algebra c.now) net.old.nodes net.old.words }
@@ -95,7 +98,7 @@ fn narrow_at_once<R: Threads + Sync, C: Compose + Sync, G: Gate + Sync>(
     requires asked { All (All (IsStepFor (full_of (C.algebra c.now)) net.old.nodes))
         (steps_of lines.items) }
     requires some { 0 < count }
-    requires few { count ≤ 64 }
+    requires few { count + idle ≤ 64 }
     requires sessions { length lines.items ≤ 64 }
     ensures rest { net.new ≡ record net.old { words = net.new.words } }
     ensures narrowed { OnOk result (AreNarrowed (C.algebra c.now) net.old.nodes net.old.words
@@ -107,19 +110,24 @@ fn narrow_at_once<R: Threads + Sync, C: Compose + Sync, G: Gate + Sync>(
     ensures held { IfOk result (λ r. AreHeld (C.algebra c.now) r.1.items) }
 {
     lawful(c);
-    let points = Points::new(alloc, lines.len())?;
+    let points = Points::new(alloc, lines.len(), count, idle)?;
+    // each point is gone to by another thread at most
+    let threads = 2 * lines.len() as u32 + idle;
     let weight = lines.len() as u32 + count + 1;
     let (table, pass) = open(alloc, net, c, weight)?;
     let (rest, sessions) = deal_sessions(alloc, &table, pass, lines)?;
     let (home, pieces) = deal_pieces(alloc, &table, rest, net.edges(), count)?;
-    let (sessions, pieces) = run_at_once(rt, &table, c, gate, closed, &points, sessions, pieces);
+    let (sessions, pieces) = run_at_once(
+        rt, &table, c, gate, closed, &points, threads, sessions, pieces,
+    );
     let (pass, copies) = gather_pieces(alloc, &table, home, pieces)?;
     let (pass, done) = gather_sessions(alloc, &table, pass, sessions)?;
     table.close(pass, net);
     Ok((done, copies))
 }
 
-/// Runs the sessions and the pieces at once. Takes no memory.
+/// Runs the sessions and the pieces at once. So many threads at most pass the points of the gate, of which one begins
+/// first, since it takes a while until it does. Takes no memory.
 fn run_at_once<R: Threads + Sync, C: Compose + Sync, G: Gate + Sync>(
     rt: &R,
     table: &OpenNet,
@@ -127,6 +135,66 @@ fn run_at_once<R: Threads + Sync, C: Compose + Sync, G: Gate + Sync>(
     gate: &G,
     closed: &[u64],
     points: &Points,
+    threads: u32,
+    sessions: Vec<Session>,
+    pieces: Vec<Piece>,
+) -> (Vec<Session>, Vec<Piece>)
+    requires calculus { C.algebra c.now ≡ algebra_of table.now.opening }
+    requires opening { IsNetwork (C.algebra c.now) table.now.opening.nodes table.now.opening.words }
+    requires closed_network { IsNetwork (C.algebra c.now) table.now.opening.nodes closed.now }
+    requires closed { IsClosed (C.algebra c.now) table.now.opening.nodes closed.now }
+    requires sessions { All (IsSession (C.algebra c.now) table.now) sessions.items }
+    requires some { 0 < length pieces.items }
+    requires pieces { All (IsPiece table.now) pieces.items }
+    ensures run { All (HasRun (C.algebra c.now) table.now) result.0.items }
+    ensures asked { asked_of_sessions result.0.items ≡ asked_of_sessions sessions.items }
+    ensures worked { All (HasWorked (C.algebra c.now) table.now) result.1.items }
+    ensures count { length result.1.items ≡ length pieces.items }
+{
+    if threads == 0 {
+        return run_both(rt, table, c, gate, closed, points, 0, sessions, pieces);
+    }
+    let pass = || points.pass_all(gate);
+    let rest = move || -> (Vec<Session>, Vec<Piece>)
+        requires { IsSync R.row × IsSync C.row × IsSync G.row
+            × (0 < threads)
+            × (C.algebra c.now ≡ algebra_of table.now.opening)
+            × IsNetwork (C.algebra c.now) table.now.opening.nodes table.now.opening.words
+            × IsNetwork (C.algebra c.now) table.now.opening.nodes closed.now
+            × IsClosed (C.algebra c.now) table.now.opening.nodes closed.now
+            × All (IsSession (C.algebra c.now) table.now) sessions.items
+            × (0 < length pieces.items)
+            × All (IsPiece table.now) pieces.items }
+        ensures { All (HasRun (C.algebra c.entry.now) table.entry.now) result.0.items
+            × (asked_of_sessions result.0.items ≡ asked_of_sessions sessions.items)
+            × All (HasWorked (C.algebra c.entry.now) table.entry.now) result.1.items
+            × (length result.1.items ≡ length pieces.items) }
+    {
+        run_both(
+            rt,
+            table,
+            c,
+            gate,
+            closed,
+            points,
+            threads - 1,
+            sessions,
+            pieces,
+        )
+    };
+    let (_, ran) = thread::join(rt, pass, rest);
+    ran
+}
+
+/// Runs the pieces in threads of their own, and the sessions in this one. So many threads more may pass the points.
+fn run_both<R: Threads + Sync, C: Compose + Sync, G: Gate + Sync>(
+    rt: &R,
+    table: &OpenNet,
+    c: &C,
+    gate: &G,
+    closed: &[u64],
+    points: &Points,
+    threads: u32,
     sessions: Vec<Session>,
     mut pieces: Vec<Piece>,
 ) -> (Vec<Session>, Vec<Piece>)
@@ -135,7 +203,6 @@ fn run_at_once<R: Threads + Sync, C: Compose + Sync, G: Gate + Sync>(
     requires closed_network { IsNetwork (C.algebra c.now) table.now.opening.nodes closed.now }
     requires closed { IsClosed (C.algebra c.now) table.now.opening.nodes closed.now }
     requires sessions { All (IsSession (C.algebra c.now) table.now) sessions.items }
-    requires few { length sessions.items ≤ 64 }
     requires some { 0 < length pieces.items }
     requires pieces { All (IsPiece table.now) pieces.items }
     ensures run { All (HasRun (C.algebra c.now) table.now) result.0.items }
@@ -143,8 +210,6 @@ fn run_at_once<R: Threads + Sync, C: Compose + Sync, G: Gate + Sync>(
     ensures worked { All (HasWorked (C.algebra c.now) table.now) result.1.items }
     ensures count { length result.1.items ≡ length pieces.items }
 {
-    // each point is gone to by another thread at most
-    let threads = 2 * sessions.len() as u32;
     let work = move || -> Vec<Piece>
         requires { IsSync R.row × IsSync C.row × IsSync G.row
             × (C.algebra c.now ≡ algebra_of table.now.opening)

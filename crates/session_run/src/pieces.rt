@@ -36,6 +36,19 @@ pub(crate) struct Piece {
     copy: Option<SliceCopy>,
 }
 
+/// How many of so many workers share the edges: all of them, or one where there are few edges.
+pub(crate) fn sharing(edges: u32, workers: u32) -> u32
+    requires { 0 < workers }
+    ensures some { 0 < result }
+    ensures few { result ≤ workers }
+{
+    if slice_end(edges, 0, workers) == 0 {
+        1
+    } else {
+        workers
+    }
+}
+
 /// So many pieces, over which the edges are dealt out, each with a part of the pass. Returns what is left of it.
 pub(crate) fn deal_pieces(
     alloc: Global,

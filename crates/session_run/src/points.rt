@@ -1,10 +1,10 @@
-//! The points of the gate at which the sessions of a batch begin and end.
+//! The points of the gate at which the sessions of a batch begin and end, and those of the workers that have no edges.
 //!
 //! A gate may hold whoever passes a point, for as long as it likes, and a session that is held keeps no other one from
 //! going on. So the points are passed by threads of their own, each at a point that nobody else went to, and whoever
 //! runs the sessions is only told which of them may begin. One such thread does where nothing is held.
 
-ghost use Rattle.std.specs.Prelude.{◌≤◌, IfOk, vec_len};
+ghost use Rattle.std.specs.Prelude.{◌≤◌, ◌+◌, IfOk, vec_len};
 
 use calculus_table::Memory;
 use qsr_outside::Gate;
@@ -12,15 +12,19 @@ use std::alloc::Global;
 use std::sync::atomic::{AtomicBool, AtomicU64, Ordering};
 use std::thread::yield_now;
 
-/// How far each session is, and to how many of the points someone went.
+/// How far each session is, which workers have no edges, and to how many of the points someone went.
 #[derive(Drop)]
 pub(crate) struct Points {
     to_begin: AtomicU64,
+    to_idle: AtomicU64,
     to_end: AtomicU64,
     may_run: Vec<AtomicBool>,
     has_run: Vec<AtomicBool>,
+    first_idle: u32,
+    idle: u32,
     ghost few: { vec_len may_run ≤ 64 },
     ghost few_more: { vec_len has_run ≤ 64 },
+    ghost few_workers: { first_idle + idle ≤ 64 },
 }
 
 /// So many flags that aren't set.
@@ -43,17 +47,26 @@ fn is_set(flags: &[AtomicBool], session: u32) -> bool {
 }
 
 impl Points {
-    /// The points of so many sessions, at most 64.
-    pub(crate) fn new(alloc: Global, sessions: usize) -> Result<Points, Memory>
-        requires { sessions ≤ 64 }
+    /// The points of so many sessions, at most 64, and of so many workers from the number `first_idle` on.
+    pub(crate) fn new(
+        alloc: Global,
+        sessions: usize,
+        first_idle: u32,
+        idle: u32,
+    ) -> Result<Points, Memory>
+        requires sessions { sessions ≤ 64 }
+        requires workers { first_idle + idle ≤ 64 }
     {
         let may_run = unset(alloc, sessions)?;
         let has_run = unset(alloc, sessions)?;
         Ok(Points {
             to_begin: AtomicU64::new(0),
+            to_idle: AtomicU64::new(0),
             to_end: AtomicU64::new(0),
             may_run,
             has_run,
+            first_idle,
+            idle,
         })
     }
 
@@ -69,9 +82,25 @@ impl Points {
         }
     }
 
-    /// Passes the points at which sessions begin, and then those at which they end, as far as nobody else went there.
+    /// Whether someone went to each point, now or within so many turns.
+    pub(crate) fn are_gone_to(&self, turns: u64) -> bool {
+        for _turn in 0..turns {
+            if self.to_begin.load(Ordering::SeqCst) >= self.may_run.len() as u64
+                && self.to_idle.load(Ordering::SeqCst) >= u64::from(self.idle)
+                && self.to_end.load(Ordering::SeqCst) >= self.has_run.len() as u64
+            {
+                return true;
+            }
+            yield_now();
+        }
+        false
+    }
+
+    /// Passes the points at which sessions begin, then those of the workers without edges, and then those at which
+    /// sessions end, as far as nobody else went there.
     pub(crate) fn pass_all<G: Gate>(&self, gate: &G) {
         self.pass_begins(gate);
+        self.pass_idle(gate);
         self.pass_ends(gate);
     }
 
@@ -84,6 +113,19 @@ impl Points {
             };
             gate.pass(2000 + session as u32);
             flag.store(true, Ordering::SeqCst);
+        }
+    }
+
+    /// Passes the two points of each worker without edges, as far as nobody else went there.
+    fn pass_idle<G: Gate>(&self, gate: &G) {
+        for _ in 0..self.idle {
+            let place = self.to_idle.fetch_add(1, Ordering::SeqCst);
+            if place >= u64::from(self.idle) {
+                return;
+            }
+            let worker = self.first_idle + place as u32;
+            gate.pass(worker);
+            gate.pass(1000 + worker);
         }
     }
 

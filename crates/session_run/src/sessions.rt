@@ -1,9 +1,9 @@
 //! The sessions of a batch, each with a pass of its own, with which it states its facts and looks at words as they are.
 //!
 //! One thread runs the sessions, each as soon as it may begin, in whatever order that is; a session never waits while
-//! it takes its steps. Others pass the points of the gate (`points`). Where no session could begin for a while, since a
-//! point holds the thread that passes it, one more thread goes to the points that are left. So no session waits for
-//! another one, and where no point holds anyone one thread passes them all.
+//! it takes its steps. Another one passes the points of the gate (`points`). Where no session could begin for a while, or
+//! no end was passed, since a point holds the thread that passes it, one more thread goes to the points that are left. So
+//! no session waits for another one, and where no point holds anyone one thread passes them all.
 
 ghost use Rattle.std.specs.Prelude.{◌≡◌, ◌+◌, ◌-◌, ◌<◌, ◌≤◌, ◌++◌, [], ℕ, IfOk, length, true};
 ghost use Rattle.std.specs.List.{All};
@@ -24,7 +24,7 @@ use std::alloc::Global;
 use std::thread;
 use std::thread::{Threads, yield_now};
 
-/// How many turns in a row no session may begin until one more thread goes to the points.
+/// How many turns in a row nothing may happen until one more thread goes to the points.
 const HELD_TURNS: u64 = 1000;
 
 /// A session: its pass, its place among the sessions, its lines, and whether they were taken.
@@ -214,7 +214,48 @@ fn run_rest<C: Compose>(table: &OpenNet, c: &C, points: &Points, sessions: &mut 
     }
 }
 
-/// Runs all sessions, each between its points of the gate. So many threads at most pass the points.
+/// Starts one more thread that goes to the points, of so many that may be, and runs the sessions. Where none may be, this
+/// one passes the points that are left.
+#[cycle(running)]
+fn run_helped<R: Threads + Sync, C: Compose + Sync, G: Gate + Sync>(
+    rt: &R,
+    table: &OpenNet,
+    c: &C,
+    gate: &G,
+    points: &Points,
+    threads: u32,
+    mut sessions: Vec<Session>,
+) -> Vec<Session>
+    requires calculus { C.algebra c.now ≡ algebra_of table.now.opening }
+    requires opening { IsNetwork (C.algebra c.now) table.now.opening.nodes table.now.opening.words }
+    requires sessions { All (IsSession (C.algebra c.now) table.now) sessions.items }
+    ensures run { All (HasRun (C.algebra c.now) table.now) result.items }
+    ensures asked { asked_of_sessions result.items ≡ asked_of_sessions sessions.items }
+{
+    if threads == 0 {
+        points.pass_begins(gate);
+        run_turns(table, c, points, sessions.as_mut_slice(), u64::MAX);
+        run_rest(table, c, points, sessions.as_mut_slice());
+        points.pass_all(gate);
+        return sessions;
+    }
+    let pass = || points.pass_all(gate);
+    let run = move || -> Vec<Session>
+        requires { IsSync R.row × IsSync C.row × IsSync G.row
+            × (0 < threads)
+            × (C.algebra c.now ≡ algebra_of table.now.opening)
+            × IsNetwork (C.algebra c.now) table.now.opening.nodes table.now.opening.words
+            × All (IsSession (C.algebra c.now) table.now) sessions.items }
+        ensures { All (HasRun (C.algebra c.entry.now) table.entry.now) result.items
+            × (asked_of_sessions result.items ≡ asked_of_sessions sessions.items) }
+    { run_sessions(rt, table, c, gate, points, threads - 1, sessions) };
+    let (_, ran) = thread::join(rt, pass, run);
+    ran
+}
+
+/// Runs all sessions as they may begin, each between its points of the gate, and returns where someone went to each
+/// point. Where no session could begin for a while, or nobody goes to a point, one more thread goes to the points that
+/// are left; so many more may.
 #[cycle(running)]
 pub(crate) fn run_sessions<R: Threads + Sync, C: Compose + Sync, G: Gate + Sync>(
     rt: &R,
@@ -231,47 +272,10 @@ pub(crate) fn run_sessions<R: Threads + Sync, C: Compose + Sync, G: Gate + Sync>
     ensures run { All (HasRun (C.algebra c.now) table.now) result.items }
     ensures asked { asked_of_sessions result.items ≡ asked_of_sessions sessions.items }
 {
-    if threads == 0 || sessions.is_empty() {
-        points.pass_begins(gate);
-        run_turns(table, c, points, sessions.as_mut_slice(), u64::MAX);
-        run_rest(table, c, points, sessions.as_mut_slice());
-        return sessions;
-    }
-    let pass = || points.pass_all(gate);
-    let run = move || -> Vec<Session>
-        requires { IsSync R.row × IsSync C.row × IsSync G.row
-            × (0 < threads)
-            × (C.algebra c.now ≡ algebra_of table.now.opening)
-            × IsNetwork (C.algebra c.now) table.now.opening.nodes table.now.opening.words
-            × All (IsSession (C.algebra c.now) table.now) sessions.items }
-        ensures { All (HasRun (C.algebra c.entry.now) table.entry.now) result.items
-            × (asked_of_sessions result.items ≡ asked_of_sessions sessions.items) }
-    { run_held(rt, table, c, gate, points, threads - 1, sessions) };
-    let (_, ran) = thread::join(rt, pass, run);
-    ran
-}
-
-/// Runs the sessions as they may begin, and lets one more thread go to the points where none could for a while.
-#[cycle(running)]
-fn run_held<R: Threads + Sync, C: Compose + Sync, G: Gate + Sync>(
-    rt: &R,
-    table: &OpenNet,
-    c: &C,
-    gate: &G,
-    points: &Points,
-    threads: u32,
-    mut sessions: Vec<Session>,
-) -> Vec<Session>
-    requires calculus { C.algebra c.now ≡ algebra_of table.now.opening }
-    requires opening { IsNetwork (C.algebra c.now) table.now.opening.nodes table.now.opening.words }
-    requires sessions { All (IsSession (C.algebra c.now) table.now) sessions.items }
-    ensures run { All (HasRun (C.algebra c.now) table.now) result.items }
-    ensures asked { asked_of_sessions result.items ≡ asked_of_sessions sessions.items }
-{
     run_turns(table, c, points, sessions.as_mut_slice(), HELD_TURNS);
-    if have_all_run(&sessions) {
+    if have_all_run(&sessions) && points.are_gone_to(HELD_TURNS) {
         run_rest(table, c, points, sessions.as_mut_slice());
         return sessions;
     }
-    run_sessions(rt, table, c, gate, points, threads, sessions)
+    run_helped(rt, table, c, gate, points, threads, sessions)
 }

@@ -1,5 +1,5 @@
 //! Scripts over nodes of RCC-8: how they are read, and what their batches answer.
-ghost use Rattle.std.specs.Prelude.{◌≡◌};
+ghost use Rattle.std.specs.Prelude.{◌≡◌, ◌<◌, ◌≤◌};
 
 use super::*;
 use calculus_builtin::rcc8;
@@ -206,7 +206,7 @@ fn less_than_a_piece_is_taken_after_a_commit(rt: HostRuntime) -> Result<(), Fail
     Ok(())
 }
 
-/// The replies to the next batch of a script, by one worker, if there is one.
+/// The replies to the next batch of a script, by so many workers, from 1 to 64, if there is one.
 fn next_replies<R: Threads + Sync + Abort, S: Source, G: Gate + Sync>(
     rt: &R,
     alloc: Global,
@@ -214,19 +214,59 @@ fn next_replies<R: Threads + Sync + Abort, S: Source, G: Gate + Sync>(
     reader: &mut ScriptReader,
     source: &mut S,
     c: &Calculus,
+    workers: u32,
     gate: &G,
 ) -> Result<Option<String>, Fail>
-    requires { c.now.algebra ≡ store.old.calculus }
+    requires calculus { c.now.algebra ≡ store.old.calculus }
+    requires some { 0 < workers }
+    requires few { workers ≤ 64 }
     ensures { store.new.calculus ≡ store.old.calculus }
 {
     let Some(batch) = reader.next(source, c, store.nodes())? else {
         return Ok(None);
     };
     assert!(rt; store.newest() < 1000 && store.next_fact() < 1000);
-    Ok(Some(run_batch(rt, alloc, store, &batch, c, c, 1, gate)?))
+    Ok(Some(run_batch(rt, alloc, store, &batch, c, c, workers, gate)?))
 }
 
-/// The replies to the batches of a script, at most twenty.
+/// The replies to the batches of a script, at most twenty, by so many workers, from 1 to 64.
+fn replies_by<R: Threads + Sync + Abort, G: Gate + Sync>(
+    rt: &R,
+    alloc: Global,
+    store: &mut Store,
+    script: &[u8],
+    c: &Calculus,
+    workers: u32,
+    gate: &G,
+) -> Result<String, Fail>
+    requires calculus { c.now.algebra ≡ store.old.calculus }
+    requires some { 0 < workers }
+    requires few { workers ≤ 64 }
+    ensures { store.new.calculus ≡ store.old.calculus }
+{
+    let mut source = BytesSource::new(alloc, script, 4096, &[])?;
+    let mut reader = ScriptReader::new(alloc, 100_000)?;
+    let mut text = String::new(alloc);
+    for _batch in 0..20 {
+        let Some(replies) = next_replies(
+            rt,
+            alloc,
+            store,
+            &mut reader,
+            &mut source,
+            c,
+            workers,
+            gate,
+        )?
+        else {
+            return Ok(text);
+        };
+        text.push_str(&replies)?;
+    }
+    Ok(text)
+}
+
+/// The same by one worker.
 fn all_replies<R: Threads + Sync + Abort, G: Gate + Sync>(
     rt: &R,
     alloc: Global,
@@ -238,17 +278,7 @@ fn all_replies<R: Threads + Sync + Abort, G: Gate + Sync>(
     requires { c.now.algebra ≡ store.old.calculus }
     ensures { store.new.calculus ≡ store.old.calculus }
 {
-    let mut source = BytesSource::new(alloc, script, 4096, &[])?;
-    let mut reader = ScriptReader::new(alloc, 100_000)?;
-    let mut text = String::new(alloc);
-    for _batch in 0..20 {
-        let Some(replies) = next_replies(rt, alloc, store, &mut reader, &mut source, c, gate)?
-        else {
-            return Ok(text);
-        };
-        text.push_str(&replies)?;
-    }
-    Ok(text)
+    replies_by(rt, alloc, store, script, c, 1, gate)
 }
 
 #[test]
@@ -384,5 +414,33 @@ fn a_peek_after_the_worker_shows_its_work(rt: HostRuntime) -> Result<(), Fail> {
         "s withdrawn 3\ns peek ( NTPP )\nversion 2 closed\n"
     );
     assert_eq!(rt; gate.missed.load(Ordering::SeqCst), 0);
+    Ok(())
+}
+
+#[test]
+fn a_held_point_holds_no_other(rt: HostRuntime) -> Result<(), Fail> {
+    let c = rcc8(rt.alloc())?;
+    // script, the point that is held, the point that it waits for, the replies of three workers, of whom two have no edges
+    let rows: [(&[u8], u32, u32, &str); 2] = [
+        (
+            b"a assert 0 1 ( TPP )\nb assert 1 2 ( TPP )\n",
+            3000,
+            3001,
+            "a fact 1\nb fact 2\nversion 1 closed\n",
+        ),
+        (
+            b"s assert 0 1 ( TPP )\ns peek 0 1\n",
+            2000,
+            1002,
+            "s fact 1\ns peek ( TPP )\nversion 1 closed\n",
+        ),
+    ];
+    for (script, held, until, expected) in rows {
+        let gate = gate_holding(held, until);
+        let mut store = Store::new(rt.alloc(), 3, &c)?;
+        let replies = replies_by(&rt, rt.alloc(), &mut store, script, &c, 3, &gate)?;
+        assert_eq!(rt; replies.as_str(), expected, "{held} waits for {until}");
+        assert_eq!(rt; gate.missed.load(Ordering::SeqCst), 0);
+    }
     Ok(())
 }
