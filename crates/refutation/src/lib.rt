@@ -13,6 +13,7 @@
 #![tactic(auto)]
 
 mod checking;
+mod compositions;
 mod fault;
 mod forms;
 mod laws;

@@ -14,7 +14,7 @@ ghost use Rattle.refutation.specs.RuledSteps.{steps_below, steps_along, steps_of
 ghost use Rattle.refutation.specs.RuledSteps.{all_steps, narrows};
 ghost use Rattle.refutation.specs.Passes.{GoesThrough, EndsAmong, AreStepsOf};
 
-use crate::stepped::{Replaced, replace, set_after};
+use crate::stepped::{Replaced, along, replace};
 use crate::tree::Step;
 use calculus_table::Memory;
 use compose_fast::{Fast, first_zero};
@@ -88,8 +88,9 @@ fn narrow(net: &mut Net, trail: &mut Vec<Replaced>, c: &Fast, step: &Step) -> Re
         (KeepsTrail net.old.nodes net.old.words trail.old.items net.new.words trail.new.items) }
     ensures nodes { net.new.nodes ≡ net.old.nodes }
 {
+    let composed = along(net, c, step);
     let edge = edge_between(net.nodes(), step.i, step.k);
-    let set = set_after(net, c, step);
+    let set = net.word(edge).meet(composed);
     if set == net.word(edge) {
         return Ok(false);
     }

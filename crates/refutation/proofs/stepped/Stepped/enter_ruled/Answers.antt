@@ -18,7 +18,7 @@ rule-requires-clause-network c =
     let a = c.self.inside in
     let net : IsNetwork a.calculus a.net.nodes a.net.words = rw (← c.self.view_is) at c.requires.network in
     let words = ap (λ (y : Network). y.words) c.in_ok-replace.ensures.words in
-    rw (c.in_ok-replace.ensures.nodes, words, c.meet-set.ensures, c.word.ensures) (met_at-network a.calculus a.net.nodes a.net.words c.args.edge c.args.part net)
+    rw (c.calculus.ensures, c.in_ok-replace.ensures.nodes, words, c.meet-set.ensures, c.word.ensures) (met_at-network a.calculus a.net.nodes a.net.words c.args.edge c.args.part net)
 
 -- what leads back to the network under the new one
 trail : (c : In-Ok) → IsTrail c.self.inside.net.nodes c.self.inside.net.words c.rule.new.net.words c.rule.new.trail.items
@@ -52,4 +52,4 @@ returns-clause-steps c =
     let words : c.replace.new.net.words ≡ met_at a.net.words c.args.edge c.args.part =
     ap (λ (y : Network). y.words) c.in_ok-replace.ensures.words ∙ ap (slice_set a.net.words c.args.edge) (c.meet-set.ensures ∙ ap (λ w. bit_and w c.args.part) c.word.ensures) in
     rw (← c.self.view_is) (subst (λ n. AreStepsOf c.args.cut a.calculus n (met_at a.net.words c.args.edge c.args.part) c.in_ok-steps.steps.items) c.in_ok-replace.ensures.nodes
-    (subst (λ ws. AreStepsOf c.args.cut a.calculus c.replace.new.net.nodes ws c.in_ok-steps.steps.items) words c.in_ok-steps.ensures.steps))
+    (subst (λ ws. AreStepsOf c.args.cut a.calculus c.replace.new.net.nodes ws c.in_ok-steps.steps.items) words (rw c.calculus.ensures at c.in_ok-steps.ensures.steps)))
