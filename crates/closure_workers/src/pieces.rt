@@ -37,6 +37,11 @@ const TIMES: u32 = 2;
 /// The least number of edges that are shared out. Fewer are those of less than 182 nodes.
 const SHARED: u32 = 16_384;
 
+/// Whether so many edges are shared out.
+pub(crate) fn is_shared(edges: u32) -> bool {
+    edges >= SHARED
+}
+
 /// Where a slice ends that begins at the edge `from`, where so many workers are left for the edges from there on. Few
 /// edges go to the last worker alone: each worker takes every edge that becomes smaller off a queue of its own, so that
 /// sharing pays only where the rows are long.
@@ -47,7 +52,7 @@ pub fn slice_end(edges: u32, from: u32, left: u32) -> u32
     ensures below { result ≤ edges }
     ensures last { left ≡ 1 → result ≡ edges }
 {
-    if edges < SHARED && left > 1 {
+    if !is_shared(edges) && left > 1 {
         from
     } else {
         from + (edges - from) / left

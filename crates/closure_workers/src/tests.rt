@@ -103,7 +103,8 @@ fn chain<C: Compose>(
     Ok(net)
 }
 
-/// Closes the network by each number of workers and on one thread, and fails unless all are the same.
+/// Closes the network by each number of workers, also by rounds where few edges aren't shared out, and on one thread, and
+/// fails unless all are the same.
 fn assert_same<R: Threads + Sync + Abort, C: Compose + Sync>(
     rt: &R,
     alloc: Global,
@@ -118,6 +119,14 @@ fn assert_same<R: Threads + Sync + Abort, C: Compose + Sync>(
         assert!(rt; is_network(&found, c) && 0 < workers && workers <= 64);
         close_parallel(rt, alloc, &mut found, c, workers, &NoGate)?;
         assert_eq!(rt; found.words(), expected.words(), "by {workers} workers");
+        let mut rounds = net.copy()?;
+        assert!(rt; is_network(&rounds, c) && 0 < workers && workers <= 64);
+        close_held(rt, alloc, &mut rounds, c, workers, &NoGate, Vec::new(alloc))?;
+        assert_eq!(rt;
+            rounds.words(),
+            expected.words(),
+            "by {workers} workers in rounds"
+        );
     }
     Ok(())
 }

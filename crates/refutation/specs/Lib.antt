@@ -5,6 +5,7 @@ pub mod TreeFault
 pub mod Ends
 pub mod Compositions
 pub mod Composers
+pub mod Rows
 pub mod Networks
 pub mod Ways
 pub mod Stacks

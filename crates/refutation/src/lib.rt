@@ -18,6 +18,7 @@ mod fault;
 mod forms;
 mod laws;
 mod networks;
+mod rows;
 mod ruling;
 mod stepped;
 #[cfg(test)]
