@@ -268,7 +268,7 @@ pub fn close_parallel<R: Threads + Sync, C: Compose + Sync, G: Gate + Sync>(
         return close_alone(alloc, net, c, gate, 0);
     }
     let mut closed = net.copy()?;
-    if !is_shared(net.edges()) {
+    if !is_shared(net.nodes(), c.size()) {
         *net = close_among(rt, alloc, closed, c, gate, count)?;
         return Ok(());
     }
