@@ -123,7 +123,7 @@ fn assert_same<R: Threads + Sync + Abort, C: Compose + Sync>(
         assert!(rt; is_network(&shared, c) && 0 < workers && workers <= 64);
         close_held(rt, alloc, &mut shared, c, workers, &NoGate, Vec::new(alloc))?;
         assert_eq!(rt;
-            rounds.words(),
+            shared.words(),
             expected.words(),
             "shared by {workers} workers"
         );
