@@ -8,4 +8,3 @@ pub mod Computed
 pub mod Unions
 pub mod Without
 pub mod Singles
-pub mod Turned

@@ -18,4 +18,3 @@ pub mod StepLists
 pub mod Passes
 pub mod Tracings
 pub mod TracedLaws
-pub mod Halves
