@@ -22,7 +22,7 @@ PROGRAM = """//! Walks on a path of closed networks as a search does, and on cop
 //! Writes the steps, the microseconds of all of them on the path, the steps on copies and their microseconds, and whether the same sets came out.
 #![tactic(auto)]
 
-ghost use Rattle.std.specs.Prelude.{◌≡◌, ◌<◌, IsTrue};
+ghost use Rattle.std.specs.Prelude.{◌≡◌, ◌<◌, IsTrue, IfOk};
 ghost use Rattle.network_words.specs.Network.{IsNetwork};
 
 use calculus_builtin::rcc8;
@@ -35,8 +35,8 @@ use std::io;
 use std::io::Read;
 use std::time::{Clock, Instant};
 
-/// How many steps are taken: some 7,900 narrowings and as many steps back.
-const STEPS: u32 = 15_800;
+/// How many turns a search takes: some 7,900 narrowings and as many steps back.
+const TURNS: u32 = 7_900;
 
 /// One step of a walk.
 #[derive(Clone, Copy)]
@@ -90,8 +90,8 @@ fn open_edge(path: &ClosedPath, from: u32) -> Option<u32> {
 }
 
 /// Takes a step on the path, if it can be taken.
-fn take(path: &mut ClosedPath, step: Step) -> Result<(), Memory> {
-    match step {
+fn take(path: &mut ClosedPath, step: &Step) -> Result<(), Memory> {
+    match *step {
         Step::Narrow { edge, set } => {
             if edge < path.edges() && set.within(path.word(edge)) {
                 path.narrow(edge, set)?;
@@ -126,29 +126,71 @@ fn next_open(path: &ClosedPath, from: u32) -> Option<u32> {
     if path.is_empty() { None } else { open_edge(path, from) }
 }
 
-/// So many steps of a search. For each level it keeps what is still to be tried in its place.
-fn steps_of(alloc: Global, path: &mut ClosedPath, count: u32) -> Result<Vec<Step>, Memory> {
-    let mut steps = Vec::new(alloc);
-    let mut untried: Vec<Step> = Vec::new(alloc);
-    let mut next = Step::Back;
-    let mut from = 0;
-    for _ in 0..count {
-        let step = if let Step::Narrow { .. } = next {
-            untried.push(Step::Back).map_err(|_| Memory)?;
-            let narrowing = next;
-            next = Step::Back;
-            narrowing
-        } else if let Some(edge) = next_open(path, from) {
-            let word = word_of(path, edge);
-            untried.push(Step::Narrow { edge, set: others_of(word) }).map_err(|_| Memory)?;
-            from = edge.wrapping_mul(40_503).wrapping_add(7) % 8_128;
-            Step::Narrow { edge, set: first_of(word) }
-        } else {
-            next = untried.pop().unwrap_or(Step::Back);
-            Step::Back
+/// Where a search stands. For each level it keeps the edge and the set that is still to be tried in its place, which is empty where nothing is.
+#[derive(Drop)]
+struct Search {
+    edges: Vec<u32>,
+    sets: Vec<Rel>,
+    from: u32,
+}
+
+impl Search {
+    /// Keeps what is to be tried in the place of a level.
+    fn keep(&mut self, edge: u32, others: Rel) -> Result<(), Memory> {
+        let Ok(()) = self.edges.push(edge) else {
+            return Err(Memory);
         };
-        steps.push(step).map_err(|_| Memory)?;
-        take(path, step)?;
+        let Ok(()) = self.sets.push(others) else {
+            return Err(Memory);
+        };
+        Ok(())
+    }
+
+    /// A narrowing to the least member of the next open edge, or nothing where there is none.
+    fn down(&mut self, path: &ClosedPath) -> Result<Option<Step>, Memory> {
+        let Some(edge) = next_open(path, self.from) else {
+            return Ok(None);
+        };
+        let word = word_of(path, edge);
+        self.keep(edge, others_of(word))?;
+        self.from = edge.wrapping_mul(40_503).wrapping_add(7) % 8_128;
+        Ok(Some(Step::Narrow { edge, set: first_of(word) }))
+    }
+
+    /// What is to be tried in the place of the last level, or nothing.
+    fn other(&mut self) -> Result<Option<Step>, Memory> {
+        let edge = self.edges.pop().unwrap_or(0);
+        let set = self.sets.pop().unwrap_or(Rel::EMPTY);
+        if set.is_empty() {
+            return Ok(None);
+        }
+        self.keep(edge, Rel::EMPTY)?;
+        Ok(Some(Step::Narrow { edge, set }))
+    }
+}
+
+/// Takes a step on the path and writes it down.
+fn note(steps: &mut Vec<Step>, path: &mut ClosedPath, step: Step) -> Result<(), Memory> {
+    take(path, &step)?;
+    let Ok(()) = steps.push(step) else {
+        return Err(Memory);
+    };
+    Ok(())
+}
+
+/// The steps of so many turns of a search: one down, or one back and what is to be tried in that place.
+fn steps_of(alloc: Global, path: &mut ClosedPath, turns: u32) -> Result<Vec<Step>, Memory> {
+    let mut steps = Vec::new(alloc);
+    let mut search = Search { edges: Vec::new(alloc), sets: Vec::new(alloc), from: 0 };
+    for _ in 0..turns {
+        if let Some(step) = search.down(path)? {
+            note(&mut steps, path, step)?;
+        } else {
+            note(&mut steps, path, Step::Back)?;
+            if let Some(step) = search.other()? {
+                note(&mut steps, path, step)?;
+            }
+        }
     }
     Ok(steps)
 }
@@ -156,39 +198,54 @@ fn steps_of(alloc: Global, path: &mut ClosedPath, count: u32) -> Result<Vec<Step
 /// Takes the steps on the path.
 fn walk(path: &mut ClosedPath, steps: &[Step]) -> Result<(), Memory> {
     for step in steps {
-        take(path, *step)?;
+        take(path, step)?;
     }
     Ok(())
+}
+
+/// A copy of the network with another set of an edge, closed.
+fn closed_copy(net: &Net, c: &Fast, work: &mut Work, edge: u32, set: Rel) -> Result<Net, Memory>
+    requires { work.old.nodes ≡ net.now.nodes }
+    ensures nodes { IfOk result (λ next. next.nodes ≡ net.now.nodes) }
+    ensures room { work.new.nodes ≡ work.old.nodes }
+{
+    let mut next = net.copy()?;
+    if edge < next.edges() {
+        next.set(edge, set);
+    }
+    if is_network(&next, c) {
+        close_with(&mut next, c, work);
+    }
+    Ok(next)
+}
+
+/// The network below, or the top where there is none.
+fn copy_below(top: Net, below: &mut Vec<Net>) -> Net
+    ensures { result.nodes ≡ top.nodes }
+{
+    match below.pop() {
+        Some(last) if last.nodes() == top.nodes() => last,
+        _ => top,
+    }
 }
 
 /// Takes the steps on copies of the network, each closed anew. Returns the top.
 fn walk_copies(alloc: Global, net: &Net, c: &Fast, steps: &[Step]) -> Result<Net, Memory> {
     let _nodes = net.nodes();
     let mut work = Work::new(alloc, net.nodes())?;
-    let mut top = net.copy()?;
+    let mut top = closed_copy(net, c, &mut work, net.edges(), Rel::EMPTY)?;
     let mut below = Vec::new(alloc);
-    if is_network(&top, c) {
-        close_with(&mut top, c, &mut work);
-    }
     for step in steps {
         match *step {
             Step::Narrow { edge, set } => {
-                let mut next = top.copy()?;
-                if edge < next.edges() {
-                    next.set(edge, set);
-                }
-                if is_network(&next, c) {
-                    close_with(&mut next, c, &mut work);
-                }
-                below.push(top).map_err(|_| Memory)?;
+                let next = closed_copy(&top, c, &mut work, edge, set)?;
+                let Ok(()) = below.push(top) else {
+                    return Err(Memory);
+                };
                 top = next;
             }
             Step::Back => {
-                if let Some(last) = below.pop()
-                    && last.nodes() == net.nodes()
-                {
-                    top = last;
-                }
+                top = copy_below(top, &mut below);
             }
         }
     }
@@ -205,33 +262,49 @@ fn is_same(path: &ClosedPath, net: &Net) -> bool {
     true
 }
 
-fn timed(rt: &(impl Clock + AllocGlobal), net: &Net, c: &Fast, count: u32) -> io::Result<(usize, u128, usize, u128, bool)>
+/// The microseconds that the steps take on a path, or nothing out of memory.
+fn path_time(rt: &impl Clock, path: &mut ClosedPath, steps: &[Step]) -> io::Result<Option<u128>> {
+    let start = Instant::now(rt)?;
+    let walked = walk(path, steps);
+    let time = start.elapsed(rt)?.as_micros();
+    if walked.is_err() {
+        return Ok(None);
+    }
+    Ok(Some(time))
+}
+
+/// The microseconds that the steps take on copies, and whether the top then has the sets of the path's.
+fn copies_time(
+    rt: &(impl Clock + AllocGlobal),
+    net: &Net,
+    c: &Fast,
+    path: &ClosedPath,
+    steps: &[Step],
+) -> io::Result<Option<(u128, bool)>> {
+    let start = Instant::now(rt)?;
+    let walked = walk_copies(rt.alloc(), net, c, steps);
+    let time = start.elapsed(rt)?.as_micros();
+    let Ok(top) = walked else {
+        return Ok(None);
+    };
+    Ok(Some((time, is_same(path, &top))))
+}
+
+/// A new path of the network, after the steps.
+fn path_after(alloc: Global, net: &Net, c: &Fast, steps: &[Step]) -> Result<ClosedPath, Memory>
     requires { IsNetwork c.now net.now.nodes net.now.words }
 {
-    let none = Ok((0, 0, 0, 0, false));
-    let Ok(mut first) = ClosedPath::new(rt.alloc(), net, c) else {
-        return none;
-    };
-    let Ok(steps) = steps_of(rt.alloc(), &mut first, count) else {
-        return none;
-    };
-    let Ok(mut path) = ClosedPath::new(rt.alloc(), net, c) else {
-        return none;
-    };
-    let start = Instant::now(rt)?;
-    let walked = walk(&mut path, &steps);
-    let on_path = start.elapsed(rt)?.as_micros();
-    let some = &steps[..steps.len() / 20];
-    let start = Instant::now(rt)?;
-    let Ok(top) = walk_copies(rt.alloc(), net, c, some) else {
-        return none;
-    };
-    let on_copies = start.elapsed(rt)?.as_micros();
-    let Ok(mut again) = ClosedPath::new(rt.alloc(), net, c) else {
-        return none;
-    };
-    let same = walked.is_ok() && walk(&mut again, some).is_ok() && is_same(&again, &top);
-    Ok((steps.len(), on_path, some.len(), on_copies, same))
+    let mut path = ClosedPath::new(alloc, net, c)?;
+    walk(&mut path, steps)?;
+    Ok(path)
+}
+
+/// The steps of a walk on a network.
+fn steps_on(alloc: Global, net: &Net, c: &Fast) -> Result<Vec<Step>, Memory>
+    requires { IsNetwork c.now net.now.nodes net.now.words }
+{
+    let mut path = ClosedPath::new(alloc, net, c)?;
+    steps_of(alloc, &mut path, TURNS)
 }
 
 fn main(rt: HostRuntime) -> io::Result<()> {
@@ -250,8 +323,23 @@ fn main(rt: HostRuntime) -> io::Result<()> {
     if !is_network(&net, &fast) {
         return Ok(());
     }
-    let (steps, on_path, some, on_copies, same) = timed(&rt, &net, &fast, STEPS)?;
-    println!(rt; "{steps} {on_path} {some} {on_copies} {same}")
+    let Ok(steps) = steps_on(alloc, &net, &fast) else {
+        return Ok(());
+    };
+    let Ok(mut path) = ClosedPath::new(alloc, &net, &fast) else {
+        return Ok(());
+    };
+    let Some(on_path) = path_time(&rt, &mut path, &steps)? else {
+        return Ok(());
+    };
+    let some = &steps[..steps.len() / 20];
+    let Ok(after) = path_after(alloc, &net, &fast, some) else {
+        return Ok(());
+    };
+    let Some((on_copies, same)) = copies_time(&rt, &net, &fast, &after, some)? else {
+        return Ok(());
+    };
+    println!(rt; "{} {on_path} {} {on_copies} {same}", steps.len(), some.len())
 }
 """
 

@@ -8,10 +8,10 @@ proved and built there, which takes as long as proving those crates does where n
 and closes it by `closure_seq`, by one worker and by four, five times. All have to end with the same sets. Prints one line for each network: the median
 microseconds of each, and the ratios of one worker to one thread and of four workers to one.
 """
-import os, random, shutil, statistics, subprocess, sys, tempfile
+import random, statistics, subprocess, sys, tempfile
 
 from closure import chain, random_network
-from timing import TOP
+from timing import build_program
 
 INTERVALS = "b bi m mi o oi s si d di f fi eq".split()
 DEPENDS = (
@@ -124,26 +124,6 @@ fn main(rt: HostRuntime) -> io::Result<()> {
 """
 
 
-def build(folder):
-    """Proves and builds the program over copies of the crates; returns its path."""
-    crates = os.path.join(folder, "crates")
-    shutil.copytree(os.path.join(TOP, "crates"), crates, ignore=shutil.ignore_patterns("out", "must-fail"))
-    shutil.copy(os.path.join(TOP, "HANDLES"), folder)
-    with open(os.path.join(TOP, "crates.txt")) as file:
-        listed = file.read()
-    with open(os.path.join(folder, "crates.txt"), "w") as file:
-        file.write(f"{listed}worker_times: {DEPENDS}\n")
-    own = os.path.join(crates, "worker_times")
-    for path, text in (("src/main.rt", PROGRAM), ("stdin", ""), ("stdout", ""), ("proofs/Lib.antt", "")):
-        path = os.path.join(own, path)
-        os.makedirs(os.path.dirname(path), exist_ok=True)
-        with open(path, "w") as file:
-            file.write(text)
-    subprocess.run(["git", "init", "-q"], cwd=folder, check=True)
-    subprocess.run(["rt", "run"], cwd=own, stdin=subprocess.DEVNULL, check=True, capture_output=True)
-    return os.path.join(own, "out", "worker_times")
-
-
 def interval_network(nodes, degree, seed):
     """About `degree` facts at each node, each a random set with the relation that random intervals have."""
     rng = random.Random(seed)
@@ -172,7 +152,7 @@ def interval_network(nodes, degree, seed):
 def main():
     sizes = [int(word) for word in sys.argv[1:]] or [3, 20, 64, 128, 256]
     with tempfile.TemporaryDirectory() as folder:
-        program = build(folder)
+        program = build_program(folder, "worker_times", DEPENDS, {"src/main.rt": PROGRAM})
         for nodes in sizes:
             kinds = (
                 ("chain", chain(nodes)),

@@ -8,3 +8,4 @@ pub mod Computed
 pub mod Unions
 pub mod Without
 pub mod Singles
+pub mod Turned

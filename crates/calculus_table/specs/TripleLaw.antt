@@ -10,6 +10,10 @@ abbrev pub ObeysAt : TripleLaw → Algebra → ℕ → ℕ → ℕ → Type 0
 ObeysAt Converse m = ConverseAt m
 ObeysAt Cycle m = CycleAt m
 
+-- each triple of which the first base relation is before r obeys the law
+abbrev pub ObeyBefore : TripleLaw → Algebra → ℕ → Type 0
+ObeyBefore law m r = (o s t : ℕ) → o < r → s < m.size → t < m.size → ObeysAt law m o s t
+
 -- a fact of each pair of base relations
 abbrev pub EachPair : Algebra → (ℕ → ℕ → Type 0) → Type 0
 EachPair m P = (s t : ℕ) → s < m.size → t < m.size → P s t

@@ -1,5 +1,6 @@
 //! An order in which queued edges are proposed: those with the fewest base relations first, since they restrict most
-//! (van Beek and Manchak 1996). Nothing is promised of it, and nothing rests on it but the time that closing takes:
+//! (van Beek and Manchak 1996), and among those the one that has waited longest: so what is given is looked at before
+//! what was derived from it. Nothing is promised of the order, and nothing rests on it but the time that closing takes:
 //! who takes a proposal looks whether that edge is queued.
 //!
 //! The place of an edge is `i * width + j`, where the width is the least power of two of 16 and more that the nodes
@@ -11,8 +12,12 @@ use calculus_table::Memory;
 use compose_fast::filled;
 use std::alloc::Global;
 
-/// No place, or no list. No edge has this place, since it would be of a node with itself.
+/// No place. No edge has this place, since it would be of a node with itself. With 255 nodes and more there is a link of
+/// this place all the same, so that it is asked for by itself.
 const NONE: u16 = 65535;
+
+/// No list.
+const NO_LIST: u32 = 64;
 
 /// The power of two that is the width for so many nodes.
 fn shift_for(nodes: u32) -> u32
@@ -35,14 +40,14 @@ struct Link {
     /// The place before it.
     back: u16,
     /// The number of the list.
-    list: u16,
+    list: u32,
 }
 
 /// A place that stands in no list.
 const UNLINKED: Link = Link {
     next: NONE,
     back: NONE,
-    list: NONE,
+    list: NO_LIST,
 };
 
 /// Doubly linked lists of places, one for each number of base relations.
@@ -51,6 +56,7 @@ pub(crate) struct Order {
     shift: u32,
     links: Vec<Link>,
     first: [u16; 64],
+    last: [u16; 64],
     some: u64,
 }
 
@@ -65,6 +71,7 @@ impl Order {
             shift,
             links: filled(alloc, UNLINKED, blocks)?,
             first: [NONE; 64],
+            last: [NONE; 64],
             some: 0,
         })
     }
@@ -78,44 +85,47 @@ impl Order {
     pub(crate) fn clear(&mut self) {
         self.links.fill(UNLINKED);
         self.first = [NONE; 64];
+        self.last = [NONE; 64];
         self.some = 0;
     }
 
-    /// Puts the edge from `i` to `j` into the list of its number of base relations, out of another.
+    /// Puts the edge from `i` to `j` at the end of the list of its number of base relations, out of another.
     #[inline(always)]
     pub(crate) fn put(&mut self, i: u32, j: u32, members: u32) {
         let place = (((i << self.shift % 32) | j) & 65535) as u16;
-        let list = (members.saturating_sub(1) % 64) as u16;
+        let list = members.saturating_sub(1) % 64;
         let Some(link) = self.links.get(usize::from(place)) else {
             return;
         };
         if link.list == list {
             return;
         }
-        if link.list != NONE {
+        if link.list != NO_LIST {
             self.unlink(place);
         }
         self.link(place, list);
     }
 
-    /// Puts a place at the head of a list.
+    /// Puts a place at the end of a list.
     #[inline(always)]
-    fn link(&mut self, place: u16, list: u16)
+    fn link(&mut self, place: u16, list: u32)
         requires { list < 64 }
     {
-        let head = self.first[usize::from(list)];
+        let back = self.last[list as usize];
+        self.last[list as usize] = place;
         if let Some(link) = self.links.get_mut(usize::from(place)) {
             *link = Link {
-                next: head,
-                back: NONE,
+                next: NONE,
+                back,
                 list,
             };
         }
-        if let Some(after) = self.links.get_mut(usize::from(head)) {
-            after.back = place;
+        if back == NONE {
+            self.first[list as usize] = place;
+            self.some |= 1 << list;
+        } else if let Some(before) = self.links.get_mut(usize::from(back)) {
+            before.next = place;
         }
-        self.first[usize::from(list)] = place;
-        self.some |= 1 << list;
     }
 
     /// Takes a place out of its list.
@@ -125,7 +135,10 @@ impl Order {
         };
         let Link { next, back, list } = *link;
         *link = UNLINKED;
-        if let Some(after) = self.links.get_mut(usize::from(next)) {
+        let list = list % 64;
+        if next == NONE {
+            self.last[list as usize] = back;
+        } else if let Some(after) = self.links.get_mut(usize::from(next)) {
             after.back = back;
         }
         if back != NONE {
@@ -134,20 +147,39 @@ impl Order {
             }
             return;
         }
-        self.first[usize::from(list % 64)] = next;
+        self.first[list as usize] = next;
         if next == NONE {
-            self.some &= !(1 << (list % 64));
+            self.some &= !(1 << list);
         }
     }
 
+    /// Takes the first place out of the first list that has one.
+    #[inline(always)]
+    fn take_place(&mut self) -> u16 {
+        let list = (self.some.trailing_zeros() % 64) as usize;
+        let place = self.first[list];
+        let Some(link) = self.links.get_mut(usize::from(place)) else {
+            return place;
+        };
+        let next = link.next;
+        link.list = NO_LIST;
+        self.first[list] = next;
+        if next == NONE {
+            self.last[list] = NONE;
+            self.some &= self.some.wrapping_sub(1);
+        } else if let Some(after) = self.links.get_mut(usize::from(next)) {
+            after.back = NONE;
+        }
+        place
+    }
+
     /// Takes an edge out of the first list that has one.
+    #[inline(always)]
     pub(crate) fn take(&mut self) -> Option<(u32, u32)> {
         if self.some == 0 {
             return None;
         }
-        let place = self.first[(self.some.trailing_zeros() % 64) as usize];
-        self.unlink(place);
-        let place = u32::from(place);
+        let place = u32::from(self.take_place());
         let shift = self.shift % 32;
         let i = place >> shift;
         Some((i, place ^ (i << shift)))

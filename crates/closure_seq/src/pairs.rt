@@ -279,6 +279,7 @@ impl PairSets {
     }
 
     /// An edge that is queued: the one that the order proposes, or where that fails the first.
+    #[inline(always)]
     fn next_queued(&mut self) -> Option<(u32, u32)>
         ensures same { self.new ≡ self.old }
         ensures edge { MatchOption result

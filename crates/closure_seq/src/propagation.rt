@@ -142,7 +142,7 @@ fn narrow_proper<C: Compose, const P: usize>(
 
 /// Narrows the set of `(i, k)` along `j` for the nodes `k` of a block that are in the range and whose lane is set in
 /// `gaps`.
-#[inline(always)]
+#[inline(never)]
 fn narrow_lanes<C: Compose, const P: usize>(
     work: &mut PairSets,
     tables: &Tables,
@@ -245,6 +245,7 @@ fn propagate_from<C: Compose, const P: usize>(
 }
 
 /// Narrows the pairs that belong to the rows along the edge between `i` and `j`, both ways.
+#[inline(always)]
 pub(crate) fn propagate<C: Compose, const P: usize>(
     work: &mut PairSets,
     tables: &mut Tables,

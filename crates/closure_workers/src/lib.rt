@@ -12,6 +12,6 @@ mod slices;
 #[cfg(test)]
 mod tests;
 
-pub use pieces::slice_end;
+pub use pieces::{is_shared, slice_end};
 pub use rounds::{close_held, close_parallel};
 pub use slices::{close_slice, close_slice_with};

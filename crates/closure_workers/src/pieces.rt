@@ -34,12 +34,19 @@ pub(crate) struct Piece {
 /// How often a worker among others reads the words before it ends.
 const TIMES: u32 = 2;
 
-/// The least number of edges that are shared out. Fewer are those of less than 182 nodes.
-const SHARED: u32 = 16_384;
+/// The least number of nodes whose edges are shared out, times the square of that of base relations.
+const SHARED: u64 = 500_000;
 
-/// Where a slice ends that begins at the edge `from`, where so many workers are left for the edges from there on. Few
-/// edges go to the last worker alone: each worker takes every edge that becomes smaller off a queue of its own, so that
-/// sharing pays only where the rows are long.
+/// Whether it pays to share the edges among so many nodes out among workers, over a calculus of so many base relations.
+/// Each worker takes every edge that becomes smaller off a queue of its own, and composes again what it found. So sharing
+/// pays only where looking along an edge takes long: where the rows are long, and composing one takes long, which grows
+/// with the square of the number of base relations.
+pub fn is_shared(nodes: u32, size: u32) -> bool {
+    let size = u64::from(size);
+    u64::from(nodes).saturating_mul(size.saturating_mul(size)) >= SHARED
+}
+
+/// Where a slice ends that begins at the edge `from`, where so many workers are left for the edges from there on.
 pub fn slice_end(edges: u32, from: u32, left: u32) -> u32
     requires some { 0 < left }
     requires below { from ≤ edges }
@@ -47,11 +54,7 @@ pub fn slice_end(edges: u32, from: u32, left: u32) -> u32
     ensures below { result ≤ edges }
     ensures last { left ≡ 1 → result ≡ edges }
 {
-    if edges < SHARED && left > 1 {
-        from
-    } else {
-        from + (edges - from) / left
-    }
+    from + (edges - from) / left
 }
 
 /// A piece over a slice.

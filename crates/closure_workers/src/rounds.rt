@@ -8,7 +8,8 @@
 //! Why it ends: if one of them has seen other words, then some word became less in this round, since what each has
 //! seen lies between the words at the round's beginning and those at its end.
 
-ghost use Rattle.std.specs.Prelude.{◌≡◌, ℕ, ◌<◌, ◌≤◌, true, false, IfOk, OnOk, OnErr, List, length, sum, slice_index};
+ghost use Rattle.std.specs.Prelude.{◌≡◌, ℕ, ◌<◌, ◌≤◌, ◌^◌, ⊤, true, false, IfOk, OnOk, OnErr, List, length, sum, slice_index};
+ghost use Rattle.std.specs.Thread.{IsSync};
 ghost use Rattle.std.specs.List.{All, AllZip};
 ghost use Rattle.network_words.specs.Edge.{edge_count};
 ghost use Rattle.network_words.specs.Network.{IsNetwork};
@@ -16,7 +17,7 @@ ghost use Rattle.network_words.specs.Closure.{IsClosed, KeepsClosed, IsClosure};
 ghost use Rattle.edge_table.specs.Opening.{algebra_of, IsPassOf};
 ghost use Rattle.closure_workers.specs.Pieces.{IsPieceOf, HasRun, IsBetween, AreHeld, AreClosedIfSeen};
 
-use crate::pieces::{Piece, deal, gather, run_piece};
+use crate::pieces::{Piece, deal, gather, is_shared, run_piece};
 use crate::slices::is_clash;
 use calculus_table::{Compose, Memory, Rel, lawful};
 use closure_seq::{SliceCopy, close};
@@ -157,21 +158,90 @@ fn close_by_rounds<R: Threads + Sync, C: Compose + Sync, G: Gate + Sync>(
     Ok(())
 }
 
-/// Closes the network on this thread, where one worker would have nobody to share the work with.
+/// Closes the network on this thread, as the worker of this number, which has all edges.
 fn close_alone<C: Compose, G: Gate>(
     alloc: Global,
     net: &mut Net,
     c: &C,
     gate: &G,
+    number: u32,
 ) -> Result<(), Memory>
-    requires { IsNetwork (C.algebra c.now) net.old.nodes net.old.words }
+    requires network { IsNetwork (C.algebra c.now) net.old.nodes net.old.words }
+    requires few { number < 2 ^ 31 }
     ensures closure { OnOk result (IsClosure (C.algebra c.now) net.old.nodes net.old.words net.new.words) }
     ensures rest { OnOk result (net.new ≡ record net.old { words = net.new.words }) }
     ensures memory { OnErr result (net.new ≡ net.old) }
 {
-    gate.pass(0);
+    gate.pass(number);
     let closed = close(alloc, net, c);
-    gate.pass(1000);
+    gate.pass(1000 + number);
+    closed
+}
+
+/// Passes the two points of each of these workers, which have no edges, in a thread of its own. Takes no memory, so that
+/// no thread makes room of its own.
+fn pass_idle<R: Threads + Sync, G: Gate + Sync>(rt: &R, gate: &G, numbers: &mut [u32])
+    requires some { 0 < length numbers.old }
+    requires few { All (λ number. number < 64) numbers.old }
+{
+    let pass = |_: usize, number: &mut u32|
+        requires { number.old < 64 }
+        ensures { ⊤ }
+    {
+        gate.pass(*number);
+        gate.pass(1000 + *number);
+    };
+    thread::for_each_mut(rt, numbers, numbers.len(), &pass);
+}
+
+/// The numbers below one.
+fn numbers_below(alloc: Global, count: u32) -> Result<Vec<u32>, Memory>
+    ensures length_is { IfOk result (λ numbers. length numbers.items ≡ count) }
+    ensures below { IfOk result (λ numbers. All (λ number. number < count) numbers.items) }
+{
+    let mut numbers = Vec::new(alloc);
+    for number in 0..count {
+        numbers.push(number).map_err(|_| Memory)?;
+    }
+    Ok(numbers)
+}
+
+/// Closes the network on this thread, as the last of so many workers, while the others, which have no edges, pass their
+/// points.
+fn close_among<R: Threads + Sync, C: Compose + Sync, G: Gate + Sync>(
+    rt: &R,
+    alloc: Global,
+    net: Net,
+    c: &C,
+    gate: &G,
+    count: u32,
+) -> Result<Net, Memory>
+    requires network { IsNetwork (C.algebra c.now) net.nodes net.words }
+    requires several { 1 < count }
+    requires few { count ≤ 64 }
+    ensures closure { IfOk result (λ closed. IsClosure (C.algebra c.now) net.nodes net.words closed.words) }
+    ensures rest { IfOk result (λ closed. closed ≡ record net { words = closed.words }) }
+{
+    let last = count - 1;
+    let mut numbers = numbers_below(alloc, last)?;
+    let pass = move || -> Vec<u32>
+        requires { IsSync R.row × IsSync G.row × (0 < length numbers.items)
+            × All (λ number. number < 64) numbers.items }
+        ensures { ⊤ }
+    {
+        pass_idle(rt, gate, numbers.as_mut_slice());
+        numbers
+    };
+    let work = move || -> Result<Net, Memory>
+        requires { IsNetwork (C.algebra c.now) net.nodes net.words × (last < 2 ^ 31) }
+        ensures { IfOk result (λ closed. IsClosure (C.algebra c.entry.now) net.nodes net.words closed.words
+            × (closed ≡ record net { words = closed.words })) }
+    {
+        let mut closed = net;
+        close_alone(alloc, &mut closed, c, gate, last)?;
+        Ok(closed)
+    };
+    let (_, closed) = thread::join(rt, pass, work);
     closed
 }
 
@@ -195,9 +265,13 @@ pub fn close_parallel<R: Threads + Sync, C: Compose + Sync, G: Gate + Sync>(
 {
     let count = workers.min(net.edges()).max(1);
     if count == 1 {
-        return close_alone(alloc, net, c, gate);
+        return close_alone(alloc, net, c, gate, 0);
     }
     let mut closed = net.copy()?;
+    if !is_shared(net.nodes(), c.size()) {
+        *net = close_among(rt, alloc, closed, c, gate, count)?;
+        return Ok(());
+    }
     close_by_rounds(rt, alloc, &mut closed, c, gate, count, Vec::new(alloc))?;
     *net = closed;
     Ok(())

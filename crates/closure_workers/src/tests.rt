@@ -103,7 +103,8 @@ fn chain<C: Compose>(
     Ok(net)
 }
 
-/// Closes the network by each number of workers and on one thread, and fails unless all are the same.
+/// Closes the network by each number of workers, also where they share few edges, and on one thread, and fails unless all
+/// are the same.
 fn assert_same<R: Threads + Sync + Abort, C: Compose + Sync>(
     rt: &R,
     alloc: Global,
@@ -118,6 +119,14 @@ fn assert_same<R: Threads + Sync + Abort, C: Compose + Sync>(
         assert!(rt; is_network(&found, c) && 0 < workers && workers <= 64);
         close_parallel(rt, alloc, &mut found, c, workers, &NoGate)?;
         assert_eq!(rt; found.words(), expected.words(), "by {workers} workers");
+        let mut shared = net.copy()?;
+        assert!(rt; is_network(&shared, c) && 0 < workers && workers <= 64);
+        close_held(rt, alloc, &mut shared, c, workers, &NoGate, Vec::new(alloc))?;
+        assert_eq!(rt;
+            shared.words(),
+            expected.words(),
+            "shared by {workers} workers"
+        );
     }
     Ok(())
 }
@@ -180,14 +189,6 @@ fn closes_points_as_on_one_thread(rt: HostRuntime) -> Result<(), Fail> {
     let c = point(rt.alloc())?;
     assert_closures(&rt, rt.alloc(), &c)?;
     assert_larger(&rt, rt.alloc(), &c, 1, 1)
-}
-
-#[test]
-fn many_edges_are_shared_out(rt: HostRuntime) -> Result<(), Fail> {
-    let c = rcc8(rt.alloc())?;
-    // the least number of nodes whose edges are dealt out to all workers
-    let net = chain(&rt, rt.alloc(), &c, 182, 24)?;
-    assert_same(&rt, rt.alloc(), &c, &net)
 }
 
 /// What a pass has seen when it has closed two slices of a network, and then all edges.

@@ -132,9 +132,10 @@ fn converses_of_places<C: Compose>(alloc: Global, c: &C) -> Result<Vec<Rel>, Mem
 }
 
 impl Fast {
-    ghost use Rattle.std.specs.Prelude.{◌≡◌, ℕ, ◌<◌, IfOk};
+    ghost use Rattle.std.specs.Prelude.{◌≡◌, ℕ, ◌+◌, ◌*◌, ◌<◌, IfOk};
     ghost use Rattle.calculus_table.specs.Rel.{IsWithin};
     ghost use Rattle.calculus_table.specs.Calculus.{IsCalculus};
+    ghost use Rattle.compose_fast.specs.Nibbles.{nibble, converse_of_place};
     ghost use Rattle.calculus_table.specs.Composition.{full_of, row_composition, composition, converse};
 
     /// The tables of a calculus. What they mean is what the calculus means, without its names.
@@ -200,17 +201,29 @@ impl Fast {
         all
     }
 
-    /// The set of the converses of the members.
+    /// The converses of the members in nibble `h` of a set.
+    #[inline(always)]
+    fn converse_of_nibble(&self, a: Rel, h: u32) -> Rel
+        requires { h < 16 }
+        ensures { result ≡ converse_of_place self.now (16 * h + nibble a h) }
+    {
+        self.places[place_of(a.word() >> (4 * h), h) as usize]
+    }
+
+    /// The set of the converses of the members. Up to eight base relations are in the first two nibbles.
     fn converse_set(&self, a: Rel) -> Rel
         requires { IsWithin a (full_of self.now) }
         ensures value { result ≡ converse self.now a }
         ensures calculus { IsCalculus self.now }
     {
-        let mut all = Rel::EMPTY;
-        let mut rest = a.word();
-        for h in 0..self.nibbles {
+        let low = self.converse_of_nibble(a, 0);
+        let mut all = low.union(self.converse_of_nibble(a, 1));
+        let mut rest = a.word() >> 8;
+        let mut h = 2;
+        while rest != 0 {
             all = all.union(self.places[place_of(rest, h) as usize]);
             rest >>= 4;
+            h += 1;
         }
         all
     }

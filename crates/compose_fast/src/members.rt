@@ -10,5 +10,5 @@ pub fn without(a: Rel, r: u32) -> Rel
     requires below { r < 64 }
     ensures { IsWithout a r result }
 {
-    Rel::of(a.word() ^ (1 << r))
+    Rel::of(a.word() & !(1 << r))
 }

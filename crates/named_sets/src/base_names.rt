@@ -5,9 +5,9 @@
 //! doesn't depend on the hash, and a look-up costs the hash and one comparison, unless two names meet at one place. 64
 //! names among 1,024 places meet twice on average.
 //!
-//! Most names are short. A name of at most seven bytes has a key: its bytes as the digits of a number to base 256, above
-//! which stands a 1, so that no two names have the same key. It is hashed by one multiplication, and compared as a
-//! number. The bytes of longer names are hashed and compared one after another.
+//! Most names are short. A name of at most seven bytes has a key: its bytes as the digits of a number to base 256,
+//! above which stands a 1, so that no two names have the same key. It is hashed by one multiplication, and compared as
+//! a number. The bytes of longer names are hashed and compared one after another.
 ghost use Rattle.std.specs.Prelude.{◌≡◌, ◌≢◌, ◌^◌, ◌<◌, ◌≤◌, true, map, length, IfSome, Some, None, if◌then◌else◌};
 ghost use Rattle.named_sets.specs.Named.{IsAt};
 ghost use Rattle.named_sets.specs.Keys.{IsKeyOf, AreKeys};
@@ -28,8 +28,8 @@ const HINTS: usize = 1024;
 /// How many base relations there may be.
 const BASES: usize = MAX_BASES as usize;
 
-/// The key of each base relation's name, where it has one, and 0 for the others; and the base relations at the places to
-/// which their names are hashed.
+/// The key of each base relation's name, where it has one, and 0 for the others; and the base relations at the places
+/// to which their names are hashed.
 #[derive(Drop)]
 struct Hints {
     keys: [u64; BASES],

@@ -66,6 +66,7 @@ impl<'a> SetWriter<'a> {
 
     /// Appends a set and an LF: the names of its members in brackets, in the order of the calculus, one space between
     /// tokens. Out of memory the text is as before.
+    #[inline(always)]
     pub fn push_line(&mut self, text: &mut String, set: Rel) -> Result<(), Memory>
         ensures ok { OnOk result (string_bytes text.new ≡ string_bytes text.old ++ set_line self.old set) }
         ensures kept { OnErr result (string_bytes text.new ≡ string_bytes text.old) }
@@ -77,8 +78,19 @@ impl<'a> SetWriter<'a> {
         {
             return append(text, &self.lines[kept.start..kept.end]);
         }
+        self.push_new_line(text, set)
+    }
+
+    /// Appends a set and an LF, and keeps the line.
+    #[inline(never)]
+    fn push_new_line(&mut self, text: &mut String, set: Rel) -> Result<(), Memory>
+        ensures ok { OnOk result (string_bytes text.new ≡ string_bytes text.old ++ set_line self.old set) }
+        ensures kept { OnErr result (string_bytes text.new ≡ string_bytes text.old) }
+        ensures same { self.new ≡ self.old }
+    {
         let kept = keep_line(&mut self.lines, &mut self.places, self.c, set)?;
         let KeptLine { start, end, .. } = kept;
+        let place = place_of(set);
         self.places[place] = Some(KeptLine { set, start, end });
         append(text, &self.lines[start..end])
     }

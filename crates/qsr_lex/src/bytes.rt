@@ -17,11 +17,31 @@ pub(crate) fn is_plain(byte: u8) -> bool
     (b'$' <= byte && byte <= b'~') || matches!(byte, b'\t' | b' '..=b'"')
 }
 
+/// For each byte whether it may be part of a word: the tab, the space, `#`, `(`, `)`, `,` and `:` may not.
+#[rattlefmt::skip]
+const WORD_BYTES: [bool; 256] = [
+    true, true, true, true, true, true, true, true, true, false, true, true, true, true, true, true,
+    true, true, true, true, true, true, true, true, true, true, true, true, true, true, true, true,
+    false, true, true, false, true, true, true, true, false, false, true, true, false, true, true, true,
+    true, true, true, true, true, true, true, true, true, true, false, true, true, true, true, true,
+    true, true, true, true, true, true, true, true, true, true, true, true, true, true, true, true,
+    true, true, true, true, true, true, true, true, true, true, true, true, true, true, true, true,
+    true, true, true, true, true, true, true, true, true, true, true, true, true, true, true, true,
+    true, true, true, true, true, true, true, true, true, true, true, true, true, true, true, true,
+    true, true, true, true, true, true, true, true, true, true, true, true, true, true, true, true,
+    true, true, true, true, true, true, true, true, true, true, true, true, true, true, true, true,
+    true, true, true, true, true, true, true, true, true, true, true, true, true, true, true, true,
+    true, true, true, true, true, true, true, true, true, true, true, true, true, true, true, true,
+    true, true, true, true, true, true, true, true, true, true, true, true, true, true, true, true,
+    true, true, true, true, true, true, true, true, true, true, true, true, true, true, true, true,
+    true, true, true, true, true, true, true, true, true, true, true, true, true, true, true, true,
+    true, true, true, true, true, true, true, true, true, true, true, true, true, true, true, true,
+];
+
 /// Whether a byte may be part of a word.
 pub(crate) fn is_word_byte(byte: u8) -> bool
     ensures { result ≡ is_word_byte byte }
 {
-    // Letters and digits pass the first test.
-    (byte > b',' && byte != b':')
-        || !matches!(byte, b' ' | b'\t' | b'(' | b')' | b',' | b':' | b'#')
+    // Each byte of a word asks this: a look-up is quicker than seven comparisons.
+    WORD_BYTES[usize::from(byte)]
 }

@@ -5,9 +5,10 @@
 //! `:`, and words, the longest runs of bytes that are neither blank nor one of these marks nor `#`.
 //!
 //! `first_line` goes over a line once: up to the first byte that is `#` or not allowed outside comments, 16 bytes at a
-//! time (`plain.rt`). That byte is the line's end, or a comment, which is passed over, or the line can't be read. Each byte of a token is read once
-//! more where it is cut. Every loop goes forward through the text, so its end is in sight and the time is linear in its
-//! length; only `lines`, which returns all tokens at once, takes memory.
+//! time (`plain.rt`). That byte is the line's end, or a comment, which is passed over, or the line can't be read. Each
+//! byte of a token is read once more where it is cut, by one look-up in a table (`bytes.rt`). Every loop goes forward
+//! through the text, so its end is in sight and the time is linear in its length; only `lines`, which returns all
+//! tokens at once, takes memory.
 ghost use Rattle.std.specs.Prelude.{◌≡◌, ◌≤◌, ◌<◌, ◌+◌, ◌++◌, length, IfOk, IfSome, OnOk, IfErr, MatchOption};
 ghost use Rattle.std.specs.Prelude.{MatchResult, Some, None, false, if◌then◌else◌};
 ghost use Rattle.qsr_lex.specs.declared.tokens.TokenKind.TheVariants.{Colon, Colons};

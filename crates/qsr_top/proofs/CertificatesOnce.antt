@@ -16,7 +16,7 @@ use Rattle.cert_file.specs.declared.claim.Claim.TheVariants as claim
 use Rattle.qsr_top.specs.Numbers.{other_network, scenario_refusal, tree_refusal}
 use Rattle.qsr_top.specs.Texts.{not_accepted_text}
 use Rattle.qsr_top.specs.Certificates.{ShowsClaim, IsAccepted, FailsScenario, FailsTree, FailsClaim, IsNotAccepted, HasTracedTree, IsTracedForm}
-use Rattle.qsr_top.specs.Output.{ChecksNetwork, IsTracedText, TracesNetwork}
+use Rattle.qsr_top.specs.Output.{JudgesCertificate, ChecksNetwork, IsTracedText, TracesCertificate, TracesNetwork}
 use Rattle.qsr_top.specs.declared.statuses.Place.{Place}
 use Rattle.qsr_top.specs.declared.statuses.Status.{Status}
 use Rattle.qsr_top.specs.declared.statuses.Status.TheVariants.{Done, NotAccepted}
@@ -96,14 +96,17 @@ module _ (c : NamedAlgebra) (net : Network) where
       status = ap (λ k. NotAccepted k p) same.number ∙ ap (NotAccepted n) same.place;
     }
 
+    judging_once : (t u : List ℕ) (s r : Status) → JudgesCertificate c certificate net t s → JudgesCertificate c certificate net u r → IsSame t u s r
+    judging_once t u Done Done h k = record { text = h.1 ∙ sym k.1; status = refl }
+    judging_once t u Done (NotAccepted n q) h k = absurd (accepted_or_not n q h.0 k.0)
+    judging_once t u (NotAccepted m p) Done h k = absurd (accepted_or_not m p k.0 h.0)
+    judging_once t u (NotAccepted m p) (NotAccepted n q) h k = same_cause m n p q t u (not_accepted_once m n p q h.0 k.0) h.1 k.1
+    judging_once t u Done _ h k = absurd k
+    judging_once t u (NotAccepted m p) _ h k = absurd k
+    judging_once t u _ r h k = absurd h
+
     pub checks_once : (t u : List ℕ) (s r : Status) → ChecksNetwork c certificate net t s → ChecksNetwork c certificate net u r → IsSame t u s r
-    checks_once t u Done Done h k = record { text = h.1 ∙ sym k.1; status = refl }
-    checks_once t u Done (NotAccepted n q) h k = absurd (accepted_or_not n q h.0 k.0)
-    checks_once t u (NotAccepted m p) Done h k = absurd (accepted_or_not m p k.0 h.0)
-    checks_once t u (NotAccepted m p) (NotAccepted n q) h k = same_cause m n p q t u (not_accepted_once m n p q h.0 k.0) h.1 k.1
-    checks_once t u Done _ h k = absurd k
-    checks_once t u (NotAccepted m p) _ h k = absurd k
-    checks_once t u _ r h k = absurd h
+    checks_once t u s r h k = judging_once t u s r h.judges k.judges
 
     same_trees : (x y : Certificate) → HasTracedTree c net certificate x → HasTracedTree c net certificate y → x ≡ y
     same_trees x y h k =
@@ -117,11 +120,14 @@ module _ (c : NamedAlgebra) (net : Network) where
     traced_texts : (t u : List ℕ) → IsTracedText c certificate net t → IsTracedText c certificate net u → t ≡ u
     traced_texts t u h k = h.text_is ∙ ap certificate_text (forms_once certificate.claim h.traced k.traced h.is_traced k.is_traced) ∙ sym k.text_is
 
+    tracing_once : (t u : List ℕ) (s r : Status) → TracesCertificate c certificate net t s → TracesCertificate c certificate net u r → IsSame t u s r
+    tracing_once t u Done Done h k = record { text = traced_texts t u h k; status = refl }
+    tracing_once t u Done (NotAccepted n q) h k = absurd (accepted_or_not n q h.accepted k.0)
+    tracing_once t u (NotAccepted m p) Done h k = absurd (accepted_or_not m p k.accepted h.0)
+    tracing_once t u (NotAccepted m p) (NotAccepted n q) h k = same_cause m n p q t u (not_accepted_once m n p q h.0 k.0) h.1 k.1
+    tracing_once t u Done _ h k = absurd k
+    tracing_once t u (NotAccepted m p) _ h k = absurd k
+    tracing_once t u _ r h k = absurd h
+
     pub traces_once : (t u : List ℕ) (s r : Status) → TracesNetwork c certificate net t s → TracesNetwork c certificate net u r → IsSame t u s r
-    traces_once t u Done Done h k = record { text = traced_texts t u h k; status = refl }
-    traces_once t u Done (NotAccepted n q) h k = absurd (accepted_or_not n q h.accepted k.0)
-    traces_once t u (NotAccepted m p) Done h k = absurd (accepted_or_not m p k.accepted h.0)
-    traces_once t u (NotAccepted m p) (NotAccepted n q) h k = same_cause m n p q t u (not_accepted_once m n p q h.0 k.0) h.1 k.1
-    traces_once t u Done _ h k = absurd k
-    traces_once t u (NotAccepted m p) _ h k = absurd k
-    traces_once t u _ r h k = absurd h
+    traces_once t u s r h k = tracing_once t u s r h.traces k.traces

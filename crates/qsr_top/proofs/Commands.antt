@@ -48,13 +48,13 @@ solves_answer a (verdict.Budget nodes) text = record { answered = tt; written = 
 
 checks_answer : (a : CheckAsked) (x : Claimed) (net : _) (text : List ℕ) (status : Status) → ChecksNetwork x.calculus x.certificate net text status → IsAnswer (check a) text status
 checks_answer a x net text Done h = record { answered = tt; written = record { may_end = tt; is_text = tt } }
-checks_answer a x net text (NotAccepted number place) h = record { answered = tt; written = record { may_end = tt; is_text = h.1 } }
-checks_answer a x net text _ h = absurd h
+checks_answer a x net text (NotAccepted number place) h = record { answered = tt; written = record { may_end = tt; is_text = h.judges.1 } }
+checks_answer a x net text _ h = absurd h.judges
 
 traces_answer : (a : CheckAsked) (x : Claimed) (net : _) (text : List ℕ) (status : Status) → TracesNetwork x.calculus x.certificate net text status → IsAnswer (trace a) text status
 traces_answer a x net text Done h = record { answered = tt; written = record { may_end = tt; is_text = tt } }
-traces_answer a x net text (NotAccepted number place) h = record { answered = tt; written = record { may_end = tt; is_text = h.1 } }
-traces_answer a x net text _ h = absurd h
+traces_answer a x net text (NotAccepted number place) h = record { answered = tt; written = record { may_end = tt; is_text = h.traces.1 } }
+traces_answer a x net text _ h = absurd h.traces
 
 relates_answer : (a : RelateAsked) (text : List ℕ) → IsAnswer (relate a) text Done
 relates_answer a text = record { answered = tt; written = record { may_end = tt; is_text = tt } }

@@ -18,6 +18,7 @@ pub mod PairTexts
 pub mod SeedVerdicts
 pub mod OnRcc8
 pub mod Working
+pub mod RuledOut
 pub mod SomeCertificates
 pub mod PlacedNetworks
 pub mod Claiming

@@ -32,6 +32,7 @@ use Rattle.qsr_top.specs.declared.statuses.Place.{Place}
 use Rattle.qsr_top.specs.declared.statuses.Status.{Status}
 use Rattle.qsr_top.specs.declared.statuses.Status.TheVariants.{Done, NotAccepted}
 use Rattle.qsr_top.proofs.InputsThere.{IsOver}
+use Rattle.qsr_top.proofs.RuledOut.{checks_network, traces_network}
 
 -- a text and a status that answer, of which the fact holds
 pub record Made (Work : List ℕ → Status → Type 0) : Type 0 where
@@ -121,8 +122,8 @@ module _ (c : NamedAlgebra) (net : Network) (lawful : IsNamedCalculus c) (over :
 
     pub checks_there : IsScenarioFor certificate.claim certificate.scenario → Made (ChecksNetwork c certificate net)
     checks_there scenario = elim (judged scenario) [
-      | inl accepted ↦ record { text = accepted_text; status = Done; answered = tt; work = (accepted, refl) }
-      | inr f ↦ record { text = not_accepted_text f.number f.place; status = NotAccepted f.number f.place; answered = tt; work = (f.is, refl) }
+      | inl accepted ↦ record { text = accepted_text; status = Done; answered = tt; work = checks_network c net certificate lawful.lawful over.network accepted_text Done (accepted, refl) }
+      | inr f ↦ record { text = not_accepted_text f.number f.place; status = NotAccepted f.number f.place; answered = tt; work = record { judges = (f.is, refl); says = tt } }
     ]
 
     record HasForm (x : Claim) : Type 0 where
@@ -149,7 +150,8 @@ module _ (c : NamedAlgebra) (net : Network) (lawful : IsNamedCalculus c) (over :
             text = certificate_text form.traced;
             status = Done;
             answered = tt;
-            work = record { accepted = accepted; traced = form.traced; is_traced = form.is_traced; text_is = refl };
+            work = traces_network c net certificate lawful.lawful over.network (certificate_text form.traced) Done
+                (record { accepted = accepted; traced = form.traced; is_traced = form.is_traced; text_is = refl });
           })
-      | inr f ↦ record { text = not_accepted_text f.number f.place; status = NotAccepted f.number f.place; answered = tt; work = (f.is, refl) }
+      | inr f ↦ record { text = not_accepted_text f.number f.place; status = NotAccepted f.number f.place; answered = tt; work = record { traces = (f.is, refl); says = tt } }
     ]

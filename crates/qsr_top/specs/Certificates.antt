@@ -1,5 +1,5 @@
 -- What the commands say of certificates: that of a verdict, whether one shows what it claims, and its traced form.
-use Rattle.std.specs.Prelude.{◌≡◌, ◌⊎◌, ℕ, List, Option, None, Some, IsSomeAnd}
+use Rattle.std.specs.Prelude.{◌≡◌, ◌⊎◌, ⊤, ℕ, List, Option, None, Some, IsSomeAnd}
 use Rattle.calculus_table.specs.Calculus.{NamedAlgebra}
 use Rattle.network_words.specs.Network.{Network}
 use Rattle.network_words.specs.Scenario.{IsScenario}
@@ -46,6 +46,12 @@ ShowsClaim c net certificate claim.Budget = IsRefutation c.algebra net.nodes net
 pub record IsAccepted (c : NamedAlgebra) (net : Network) (certificate : Certificate) : Type 0 where
   pub of_network : IsOfNetwork c net certificate
   pub shows : ShowsClaim c net certificate certificate.claim
+
+-- what a certificate that is accepted says of every scenario, by its claim: where it shows a refutation, there is none
+abbrev pub RulesOutScenarios : NamedAlgebra → Network → Claim → Type 0
+RulesOutScenarios c net claim.Yes = ⊤
+RulesOutScenarios c net claim.No = (relations : List ℕ) → ¬ IsScenario c.algebra net.nodes net.words relations
+RulesOutScenarios c net claim.Budget = (relations : List ℕ) → ¬ IsScenario c.algebra net.nodes net.words relations
 
 -- a list of base relations is no scenario, with this number and place
 pub record FailsScenario (c : NamedAlgebra) (net : Network) (number : ℕ) (place : Place) (scenario : List ℕ) : Type 0 where

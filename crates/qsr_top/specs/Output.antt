@@ -1,6 +1,6 @@
 -- What the program writes, and how it ends: a relation between what its words ask for, the documents, the bytes of its source, a text
 -- and a status. Each command makes something of what the documents give and what the source gives.
-use Rattle.std.specs.Prelude.{◌≡◌, ◌⊎◌, ℕ, List, [], Contains, Option, None, Some, Result, Ok, Err}
+use Rattle.std.specs.Prelude.{◌≡◌, ◌⊎◌, ⊤, ℕ, List, [], Contains, Option, None, Some, Result, Ok, Err}
 use Rattle.calculus_table.specs.Calculus.{NamedAlgebra}
 use Rattle.network_words.specs.Network.{Network}
 use Rattle.network_words.specs.Closure.{IsClosure}
@@ -17,7 +17,7 @@ use Rattle.qsr_top.specs.Parts.{Then}
 use Rattle.qsr_top.specs.Inputs.{CalculusOf, Searched, SearchedOf, Claimed, ClaimedOf, Related, RelatedOf, SourceNetwork, PlacedNetwork}
 use Rattle.qsr_top.specs.Texts.{usage_text, refusal_text, accepted_text, not_accepted_text}
 use Rattle.qsr_top.specs.Verdicts.{answer_text, verdict_status, RulesOut}
-use Rattle.qsr_top.specs.Certificates.{IsAccepted, IsNotAccepted, IsTracedForm}
+use Rattle.qsr_top.specs.Certificates.{IsAccepted, IsNotAccepted, IsTracedForm, RulesOutScenarios}
 use Rattle.qsr_top.specs.Relations.{IsTextOfPolygons}
 use Rattle.qsr_top.specs.Serving.{ServesScript}
 use Rattle.qsr_top.specs.Demonstrations.{Demonstrates}
@@ -58,12 +58,12 @@ pub record SolvesNetwork (asked : SolveAsked) (c : NamedAlgebra) (class : List �
 
 -- ---- check and trace
 
--- the text and the status of checking a certificate of a network
-abbrev pub ChecksNetwork : NamedAlgebra → Certificate → Network → List ℕ → Status → Type 0
-ChecksNetwork c certificate net text Done = IsAccepted c net certificate × (text ≡ accepted_text)
-ChecksNetwork c certificate net text (NotAccepted number place) =
+-- the text and the status of judging a certificate of a network
+abbrev pub JudgesCertificate : NamedAlgebra → Certificate → Network → List ℕ → Status → Type 0
+JudgesCertificate c certificate net text Done = IsAccepted c net certificate × (text ≡ accepted_text)
+JudgesCertificate c certificate net text (NotAccepted number place) =
     IsNotAccepted c net certificate number place × (text ≡ not_accepted_text number place)
-ChecksNetwork c certificate net text status = ⊥
+JudgesCertificate c certificate net text status = ⊥
 
 -- the text is that of the traced form of an accepted certificate
 pub record IsTracedText (c : NamedAlgebra) (certificate : Certificate) (net : Network) (text : List ℕ) : Type 0 where
@@ -73,11 +73,26 @@ pub record IsTracedText (c : NamedAlgebra) (certificate : Certificate) (net : Ne
   pub text_is : text ≡ certificate_text traced
 
 -- the text and the status of tracing one
-abbrev pub TracesNetwork : NamedAlgebra → Certificate → Network → List ℕ → Status → Type 0
-TracesNetwork c certificate net text Done = IsTracedText c certificate net text
-TracesNetwork c certificate net text (NotAccepted number place) =
+abbrev pub TracesCertificate : NamedAlgebra → Certificate → Network → List ℕ → Status → Type 0
+TracesCertificate c certificate net text Done = IsTracedText c certificate net text
+TracesCertificate c certificate net text (NotAccepted number place) =
     IsNotAccepted c net certificate number place × (text ≡ not_accepted_text number place)
-TracesNetwork c certificate net text status = ⊥
+TracesCertificate c certificate net text status = ⊥
+
+-- after `Done` the certificate is accepted, and says this of every scenario
+abbrev pub SaysOfScenarios : NamedAlgebra → Certificate → Network → Status → Type 0
+SaysOfScenarios c certificate net Done = RulesOutScenarios c net certificate.claim
+SaysOfScenarios c certificate net status = ⊤
+
+-- the text and the status of `check`: a no that is accepted rules every scenario out
+pub record ChecksNetwork (c : NamedAlgebra) (certificate : Certificate) (net : Network) (text : List ℕ) (status : Status) : Type 0 where
+  pub judges : JudgesCertificate c certificate net text status
+  pub says : SaysOfScenarios c certificate net status
+
+-- the text and the status of `trace`, likewise
+pub record TracesNetwork (c : NamedAlgebra) (certificate : Certificate) (net : Network) (text : List ℕ) (status : Status) : Type 0 where
+  pub traces : TracesCertificate c certificate net text status
+  pub says : SaysOfScenarios c certificate net status
 
 -- ---- relate
 

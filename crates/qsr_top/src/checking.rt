@@ -8,7 +8,7 @@ ghost use Rattle.refutation.specs.Refutes.{IsRefutation};
 ghost use Rattle.qsr_words.specs.Asked.{check};
 ghost use Rattle.qsr_words.specs.Requests.{check_of, IsCheck};
 ghost use Rattle.qsr_top.specs.Certificates.{IsAccepted, IsNotAccepted, FailsTree};
-ghost use Rattle.qsr_top.specs.Output.{ChecksNetwork};
+ghost use Rattle.qsr_top.specs.Output.{JudgesCertificate};
 ghost use Rattle.qsr_top.specs.Answers.{Answers};
 
 use crate::answers::{Answer, accepted, not_accepted};
@@ -17,7 +17,7 @@ use crate::claims::{
 };
 use crate::placing::placed_network;
 use crate::stops::Stop;
-use calculus_table::{Calculus, Memory};
+use calculus_table::{Calculus, Memory, lawful};
 use cert_file::{Cert, Claim};
 use compose_fast::Fast;
 use network_words::Net;
@@ -41,6 +41,7 @@ pub(crate) fn check_answer<R: Threads + Sync, F: Shelf, S: Source>(
 {
     let claimed = read_claimed(alloc, shelf, request)?;
     let net = placed_network(rt, alloc, source, &claimed.calculus, &claimed.polygons)?;
+    lawful(&claimed.calculus);
     match checked_answer(alloc, &net, &claimed) {
         Ok(answer) => Ok(answer),
         Err(Memory) => Err(Stop::Memory),
@@ -53,7 +54,7 @@ fn checked_answer(alloc: Global, net: &Net, claimed: &Claimed) -> Result<Answer,
     requires scenario { IsScenarioFor claimed.now.certificate.claim claimed.now.certificate.scenario }
     requires nodes { length claimed.now.certificate.tree < 2 ^ 32 }
     requires steps { All (λ node. AreFewSteps node.steps) claimed.now.certificate.tree }
-    ensures { IfOk result (λ answer. ChecksNetwork claimed.now.calculus claimed.now.certificate net.now
+    ensures { IfOk result (λ answer. JudgesCertificate claimed.now.calculus claimed.now.certificate net.now
         (string_bytes answer.text) answer.status) }
 {
     let answer = match failure(alloc, net, &claimed.calculus, &claimed.certificate)? {

@@ -7,7 +7,7 @@ ghost use Rattle.refutation.specs.Tree.{AreFewSteps};
 ghost use Rattle.refutation.specs.Refutes.{IsRefutation};
 ghost use Rattle.qsr_words.specs.Asked.{trace};
 ghost use Rattle.qsr_words.specs.Requests.{check_of, IsCheck};
-ghost use Rattle.qsr_top.specs.Output.{TracesNetwork};
+ghost use Rattle.qsr_top.specs.Output.{TracesCertificate};
 ghost use Rattle.qsr_top.specs.Certificates.{IsAccepted, IsNotAccepted, IsTracedForm, HasTracedTree, FailsTree};
 ghost use Rattle.qsr_top.specs.Answers.{Answers};
 
@@ -18,7 +18,7 @@ use crate::claims::{
 use crate::placing::placed_network;
 use crate::statuses::Status;
 use crate::stops::Stop;
-use calculus_table::{Calculus, Memory};
+use calculus_table::{Calculus, Memory, lawful};
 use cert_file::{Cert, Claim, text};
 use compose_fast::Fast;
 use network_words::Net;
@@ -42,6 +42,7 @@ pub(crate) fn trace_answer<R: Threads + Sync, F: Shelf, S: Source>(
 {
     let claimed = read_claimed(alloc, shelf, request)?;
     let net = placed_network(rt, alloc, source, &claimed.calculus, &claimed.polygons)?;
+    lawful(&claimed.calculus);
     match traced_answer(alloc, &net, claimed) {
         Ok(answer) => Ok(answer),
         Err(Memory) => Err(Stop::Memory),
@@ -54,7 +55,7 @@ fn traced_answer(alloc: Global, net: &Net, claimed: Claimed) -> Result<Answer, M
     requires scenario { IsScenarioFor claimed.certificate.claim claimed.certificate.scenario }
     requires nodes { length claimed.certificate.tree < 2 ^ 32 }
     requires steps { All (λ node. AreFewSteps node.steps) claimed.certificate.tree }
-    ensures { IfOk result (λ answer. TracesNetwork claimed.calculus claimed.certificate net.now
+    ensures { IfOk result (λ answer. TracesCertificate claimed.calculus claimed.certificate net.now
         (string_bytes answer.text) answer.status) }
 {
     let certificate = claimed.certificate;

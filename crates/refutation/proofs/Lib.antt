@@ -18,3 +18,4 @@ pub mod StepLists
 pub mod Passes
 pub mod Tracings
 pub mod TracedLaws
+pub mod Halves

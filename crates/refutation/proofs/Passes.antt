@@ -1,5 +1,5 @@
 -- Passes over all steps.
-use Rattle.std.proofs.Common.{◌≡◌, ◌≢◌, ◌⊎◌, ℕ, zero, suc, ◌+◌, ◌<◌, Bool, true, false, not, List, [], ◌∷◌, ◌++◌, length, sum, take, refl, sym, ◌∙◌, ap, subst, arith, inl, inr, append_assoc, Contains, if◌then◌else◌}
+use Rattle.std.proofs.Common.{◌≡◌, ◌≢◌, ℕ, suc, ◌<◌, Bool, true, false, List, [], ◌∷◌, ◌++◌, length, sum, refl, sym, ◌∙◌, ap, subst, arith, inl, inr, append_assoc, Contains, if◌then◌else◌}
 use Rattle.std.specs.Prelude.{slice_index}
 use Rattle.std.proofs.lemmas.List.{length-append}
 use Rattle.calculus_table.specs.Algebra.{Algebra}
@@ -7,7 +7,7 @@ use Rattle.network_words.specs.Edge.{edge_between}
 use Rattle.refutation.specs.declared.tree.Step.{Step}
 use Rattle.refutation.specs.Refutes.{after_step, after_steps}
 use Rattle.refutation.specs.RuledSteps.{all_steps, narrows, made_among, passes_of, AreRuledSteps, NoneEmptyBefore, AreCutSteps}
-use Rattle.refutation.specs.Passes.{AreMade, AreGoing, AreEnded, GoesThrough, EndedAmong, EndsAmong, AreStepsOf}
+use Rattle.refutation.specs.Passes.{AreMade, AreGoing, AreEnded, GoesThrough, EndsAmong, AreStepsOf}
 use Rattle.refutation.proofs.Pendings.{append-nil}
 use Rattle.refutation.proofs.RuledSteps.{after_step-same, after-append, made-append, ruled-begins, sum-made, ruled_steps, made_then, after_step-none, after_step-empty}
 

@@ -1,5 +1,5 @@
 -- Ruled steps: there are some for each network, and no others, and they lead to the closure.
-use Rattle.std.proofs.Common.{◌≡◌, ◌≢◌, ◌⊎◌, ℕ, zero, suc, ◌+◌, ◌<◌, ◌≤◌, ◌==◌, ◌||◌, Bool, true, false, not, List, [], ◌∷◌, ◌++◌, length, sum, refl, sym, ◌∙◌, ap, subst, arith, inl, inr, append_assoc, zero-add, if◌then◌else◌, nat_lt}
+use Rattle.std.proofs.Common.{◌≡◌, ◌≢◌, ◌⊎◌, ℕ, zero, suc, ◌+◌, ◌<◌, ◌==◌, ◌||◌, Bool, true, false, not, List, [], ◌∷◌, ◌++◌, length, sum, refl, sym, ◌∙◌, ap, subst, arith, inl, inr, append_assoc, zero-add, if◌then◌else◌, nat_lt}
 use Rattle.std.specs.Prelude.{slice_index, All, Contains}
 use Rattle.std.proofs.lemmas.Bool.{cases_lt, cases_eq, lt-ltb, ltb-true, eqb-true, eq-eqb}
 use Rattle.std.proofs.lemmas.Bool.Decides.{eqb_tells}
@@ -11,13 +11,12 @@ use Rattle.calculus_table.specs.Composition.{composition}
 use Rattle.network_words.specs.Edge.{edge_between, IsProperTriple}
 use Rattle.network_words.specs.Network.{IsNetwork, Refines, relation_between}
 use Rattle.network_words.specs.Closure.{IsClosedAt, IsClosed, KeepsClosed, IsClosure}
-use Rattle.network_words.proofs.Networks.{length-narrowed_at, narrowed_at-within, Refines-refl, Refines-trans}
+use Rattle.network_words.proofs.Networks.{length-narrowed_at, narrowed_at-within}
 use Rattle.network_words.proofs.Refinements.{sum-smaller, narrowed_at-other, KeepsClosed-refl, KeepsClosed-trans, KeepsClosed-along, IsClosedAt-along, IsClosed-pairs, IsClosure-kept, IsNetwork-kept}
 use Rattle.refutation.specs.declared.tree.Step.{Step}
 use Rattle.refutation.specs.Refutes.{after_step, after_steps}
 use Rattle.refutation.specs.RuledSteps.{steps_below, steps_along, steps_of_edge, steps_from, all_steps, narrows, made_among, passes_of, AreRuledSteps, NoneEmptyBefore, AreCutSteps}
 use Rattle.refutation.proofs.Pendings.{head-same, tail-same, append-nil}
-use Rattle.refutation.proofs.Worked.{after_step-network}
 
 -- ---- all steps
 

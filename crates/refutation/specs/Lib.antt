@@ -3,6 +3,9 @@ pub mod Steps
 pub mod Refutes
 pub mod TreeFault
 pub mod Ends
+pub mod Compositions
+pub mod Composers
+pub mod Rows
 pub mod Networks
 pub mod Ways
 pub mod Stacks

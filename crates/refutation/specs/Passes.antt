@@ -1,5 +1,5 @@
 -- Ruled steps while they are made: what was gone through so far.
-use Rattle.std.specs.Prelude.{◌≡◌, ℕ, Bool, true, false, List, [], ◌++◌, Contains}
+use Rattle.std.specs.Prelude.{◌≡◌, ℕ, Bool, true, false, List, ◌++◌, Contains}
 use Rattle.calculus_table.specs.Algebra.{Algebra}
 use Rattle.refutation.specs.declared.tree.Step.{Step}
 use Rattle.refutation.specs.Refutes.{after_steps}

@@ -1,4 +1,5 @@
 -- The steps of a node as contracts see them.
+use Rattle.std.specs.Prelude.{ℕ, length}
 use Rattle.refutation.specs.declared.tree.Steps.{Steps}
 use Rattle.refutation.specs.declared.tree.Steps.TheVariants.{Sweep, List}
 use Rattle.refutation.specs.Tree.{NodeSteps, sweep, listed}
@@ -7,3 +8,8 @@ use Rattle.refutation.specs.Tree.{NodeSteps, sweep, listed}
 abbrev pub node_steps : Steps → NodeSteps
 node_steps Sweep = sweep
 node_steps (List steps) = listed steps.items
+
+-- the number of steps that are listed
+abbrev pub steps_count : NodeSteps → ℕ
+steps_count sweep = 0
+steps_count (listed steps) = length steps

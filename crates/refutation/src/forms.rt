@@ -88,16 +88,29 @@ fn has_form(size: u32, nodes: &[Node], ends: &[u32], x: u32, node: &Node) -> boo
     x < ends[0] && (!node.is_split() || is_split_at(size, nodes, ends, x, node))
 }
 
-/// Whether the step is of three different nodes.
+/// Whether the step is of three different nodes. The tests are joined without branches, so that those of many steps are
+/// made together.
+#[inline(always)]
 fn is_proper(size: u32, step: &Step) -> bool
     ensures { IsTrue result ↔ IsProperTriple size step.now.i step.now.j step.now.k }
 {
-    step.i < size
-        && step.j < size
-        && step.k < size
-        && step.i != step.j
-        && step.j != step.k
-        && step.i != step.k
+    (step.i < size)
+        & (step.j < size)
+        & (step.k < size)
+        & (step.i != step.j)
+        & (step.j != step.k)
+        & (step.i != step.k)
+}
+
+/// Whether each step is of three different nodes.
+fn are_proper(size: u32, steps: &[Step]) -> bool
+    ensures { IsTrue result ↔ All (λ step. IsProperTriple size step.i step.j step.k) steps.now }
+{
+    let mut proper = true;
+    for step in steps {
+        proper &= is_proper(size, step);
+    }
+    proper
 }
 
 /// The first step that isn't of three different nodes.
@@ -107,6 +120,9 @@ fn first_bad_step(size: u32, steps: &[Step]) -> Option<u32>
         (All (λ step. IsProperTriple size step.i step.j step.k) steps.now)
         (IsFirstBadStep size steps.now) }
 {
+    if are_proper(size, steps) {
+        return None;
+    }
     for s in 0..steps.len() {
         if !is_proper(size, &steps[s]) {
             return Some(s as u32);

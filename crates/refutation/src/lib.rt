@@ -13,10 +13,12 @@
 #![tactic(auto)]
 
 mod checking;
+mod compositions;
 mod fault;
 mod forms;
 mod laws;
 mod networks;
+mod rows;
 mod ruling;
 mod stepped;
 #[cfg(test)]

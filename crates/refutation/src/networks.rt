@@ -55,12 +55,13 @@ impl Networks {
         })
     }
 
-    /// The network of the first node, where nodes may have steps.
+    /// The network of the first node, where nodes may have steps, and have many of them or few.
     pub(crate) fn stepped<C: Compose>(
         alloc: Global,
         net: &Net,
         c: &C,
         steps: &Steps,
+        many: bool,
     ) -> Result<Networks, Memory>
         requires network { IsNetwork (C.algebra c.now) net.now.nodes net.now.words }
         requires steps { AreSteps net.now.nodes (node_steps steps.now) }
@@ -68,7 +69,7 @@ impl Networks {
             (IsStackOf (C.algebra c.now) net.now.nodes net.now.words (node_steps steps.now)) }
         ensures closed { IfOk result (λ stack. stack.is_closed ≡ false) }
     {
-        let stepped = Stepped::new(alloc, net, c, steps)?;
+        let stepped = Stepped::new(alloc, net, c, steps, many)?;
         Ok(Networks {
             worked: Worked::Stepped(stepped),
         })

@@ -14,7 +14,8 @@ ghost use Rattle.refutation.specs.RuledSteps.{steps_below, steps_along, steps_of
 ghost use Rattle.refutation.specs.RuledSteps.{all_steps, narrows};
 ghost use Rattle.refutation.specs.Passes.{GoesThrough, EndsAmong, AreStepsOf};
 
-use crate::stepped::{Replaced, replace, set_after};
+use crate::rows::Rows;
+use crate::stepped::{Replaced, along, replace};
 use crate::tree::Step;
 use calculus_table::Memory;
 use compose_fast::{Fast, first_zero};
@@ -77,8 +78,15 @@ fn push_step(steps: &mut Vec<Step>, i: u32, k: u32, j: u32) -> Result<(), Memory
 }
 
 /// Takes a step, if it makes a set less. Says whether it does.
-fn narrow(net: &mut Net, trail: &mut Vec<Replaced>, c: &Fast, step: &Step) -> Result<bool, Memory>
+fn narrow(
+    net: &mut Net,
+    trail: &mut Vec<Replaced>,
+    rows: &Rows,
+    c: &Fast,
+    step: &Step,
+) -> Result<bool, Memory>
     requires network { IsNetwork c.now net.old.nodes net.old.words }
+    requires rows { rows.now ≡ net.old.nodes }
     requires proper { IsProperTriple net.old.nodes step.now.i step.now.j step.now.k }
     ensures made { IfOk result (λ made. made ≡ narrows c.now net.old.nodes net.old.words step.now) }
     ensures words { OnOk result (net.new ≡ record net.old {
@@ -88,8 +96,9 @@ fn narrow(net: &mut Net, trail: &mut Vec<Replaced>, c: &Fast, step: &Step) -> Re
         (KeepsTrail net.old.nodes net.old.words trail.old.items net.new.words trail.new.items) }
     ensures nodes { net.new.nodes ≡ net.old.nodes }
 {
-    let edge = edge_between(net.nodes(), step.i, step.k);
-    let set = set_after(net, c, step);
+    let composed = along(net, rows, c, step);
+    let edge = rows.edge(step.i, step.k);
+    let set = net.word(edge).meet(composed);
     if set == net.word(edge) {
         return Ok(false);
     }
@@ -101,12 +110,14 @@ fn narrow(net: &mut Net, trail: &mut Vec<Replaced>, c: &Fast, step: &Step) -> Re
 fn look_at(
     net: &mut Net,
     trail: &mut Vec<Replaced>,
+    rows: &Rows,
     c: &Fast,
     cut: bool,
     step: &Step,
     made: &mut Vec<Step>,
 ) -> Result<bool, Memory>
     requires network { IsNetwork c.now net.old.nodes net.old.words }
+    requires rows { rows.now ≡ net.old.nodes }
     requires proper { IsProperTriple net.old.nodes step.now.i step.now.j step.now.k }
     ensures going { IfOk result (λ ended. ended ≡ false → GoesThrough c.now net.old.nodes cut
         (step.now ∷ []) made.old.items net.old.words made.new.items net.new.words) }
@@ -119,7 +130,7 @@ fn look_at(
         (KeepsTrail net.old.nodes net.old.words trail.old.items net.new.words trail.new.items) }
     ensures nodes { net.new.nodes ≡ net.old.nodes }
 {
-    if !narrow(net, trail, c, step)? {
+    if !narrow(net, trail, rows, c, step)? {
         return Ok(false);
     }
     let Ok(()) = made.push(*step) else {
@@ -133,12 +144,14 @@ fn look_at(
 fn pass(
     net: &mut Net,
     trail: &mut Vec<Replaced>,
+    rows: &Rows,
     c: &Fast,
     cut: bool,
     all: &[Step],
     made: &mut Vec<Step>,
 ) -> Result<bool, Memory>
     requires network { IsNetwork c.now net.old.nodes net.old.words }
+    requires rows { rows.now ≡ net.old.nodes }
     requires proper { All (λ step. IsProperTriple net.old.nodes step.i step.j step.k) all.now }
     ensures going { IfOk result (λ ended. ended ≡ false → GoesThrough c.now net.old.nodes cut
         all.now made.old.items net.old.words made.new.items net.new.words) }
@@ -152,7 +165,7 @@ fn pass(
     ensures nodes { net.new.nodes ≡ net.old.nodes }
 {
     for step in all {
-        if look_at(net, trail, c, cut, step, made)? {
+        if look_at(net, trail, rows, c, cut, step, made)? {
             return Ok(true);
         }
     }
@@ -171,11 +184,13 @@ pub(crate) fn rule(
     alloc: Global,
     net: &mut Net,
     trail: &mut Vec<Replaced>,
+    rows: &Rows,
     c: &Fast,
     cut: bool,
     all: &[Step],
 ) -> Result<Vec<Step>, Memory>
     requires network { IsNetwork c.now net.old.nodes net.old.words }
+    requires rows { rows.now ≡ net.old.nodes }
     requires all { all.now ≡ all_steps net.old.nodes }
     ensures steps { IfOk result (λ steps.
         AreStepsOf cut c.now net.old.nodes net.old.words steps.items) }
@@ -192,7 +207,7 @@ pub(crate) fn rule(
     }
     loop {
         let before = made.len();
-        if pass(net, trail, c, cut, all, &mut made)? {
+        if pass(net, trail, rows, c, cut, all, &mut made)? {
             return Ok(made);
         }
         if made.len() == before {

@@ -1,22 +1,27 @@
 //! Networks above one another, each worked from the one under it.
 //!
 //! The top alone is stored. What each network replaced is kept, so that the one under it is had back by undoing that,
-//! the last first. A step costs one composition. A network that is closed is closed from scratch.
+//! the last first. A step costs one composition, and room for what the steps of a node replace is taken once. A network
+//! that is closed is closed from scratch.
 
 ghost use Rattle.std.specs.Prelude.{◌≡◌, ◌<◌, All, OnOk, length, slice_set};
-ghost use Rattle.network_words.specs.Edge.{edge_count, edge_between, IsProperTriple};
-ghost use Rattle.network_words.specs.Network.{IsNetwork};
+ghost use Rattle.calculus_table.specs.Rel.{IsWithin};
+ghost use Rattle.calculus_table.specs.Composition.{full_of};
+ghost use Rattle.network_words.specs.Edge.{edge_count, edge_between, IsProperPair, IsProperTriple};
+ghost use Rattle.network_words.specs.Network.{IsNetwork, relation_between};
 ghost use Rattle.refutation.specs.Tree.{AreSteps};
 ghost use Rattle.refutation.specs.Steps.{node_steps};
-ghost use Rattle.refutation.specs.Refutes.{after_step, after_steps, IsWorked};
+ghost use Rattle.refutation.specs.Refutes.{after_step, after_steps, met_at, IsWorked};
 ghost use Rattle.refutation.specs.Networks.{restored, KeepsTrail};
 
+use crate::compositions::{Composer, Compositions};
+use crate::rows::Rows;
 use crate::ruling::rule;
 use crate::tree::{Step, Steps};
 use calculus_table::{Compose, Memory, Rel, lawful};
 use closure_seq::close;
-use compose_fast::{Fast, first_zero};
-use network_words::{Net, edge_between, oriented};
+use compose_fast::first_zero;
+use network_words::{Net, oriented};
 use std::alloc::Global;
 use std::marker::Model;
 
@@ -30,6 +35,7 @@ pub(crate) struct Replaced {
 }
 
 /// Replaces the set of an edge.
+#[inline(always)]
 pub(crate) fn replace(
     net: &mut Net,
     trail: &mut Vec<Replaced>,
@@ -51,55 +57,81 @@ pub(crate) fn replace(
     Ok(())
 }
 
-/// The set of a step's edge after the step.
-pub(crate) fn set_after(net: &Net, c: &Fast, step: &Step) -> Rel
-    requires network { IsNetwork c.now net.now.nodes net.now.words }
+/// The relation of node `i` to node `j`.
+#[inline(always)]
+fn between<C: Compose>(net: &Net, rows: &Rows, c: &C, i: u32, j: u32) -> Rel
+    requires network { IsNetwork (C.algebra c.now) net.now.nodes net.now.words }
+    requires rows { rows.now ≡ net.now.nodes }
+    requires proper { IsProperPair net.now.nodes i j }
+    ensures value { result ≡ relation_between (C.algebra c.now) net.now.nodes net.now.words i j }
+    ensures within { IsWithin result (full_of (C.algebra c.now)) }
+{
+    oriented(c, i, j, net.word(rows.edge(i, j)))
+}
+
+/// The composition along a step, as its edge stores it.
+#[inline(always)]
+pub(crate) fn along<C: Compose>(net: &Net, rows: &Rows, c: &C, step: &Step) -> Rel
+    requires network { IsNetwork (C.algebra c.now) net.now.nodes net.now.words }
+    requires rows { rows.now ≡ net.now.nodes }
     requires proper { IsProperTriple net.now.nodes step.now.i step.now.j step.now.k }
-    ensures { after_step c.now net.now.nodes net.now.words step.now
-        ≡ slice_set net.now.words (edge_between net.now.nodes step.now.i step.now.k) result }
+    ensures { after_step (C.algebra c.now) net.now.nodes net.now.words step.now
+        ≡ met_at net.now.words (edge_between net.now.nodes step.now.i step.now.k) result }
 {
     lawful(c);
-    let first = net.get(c, step.i, step.j);
-    let second = net.get(c, step.j, step.k);
-    let composed = oriented(c, step.i, step.k, c.compose(first, second));
-    let edge = edge_between(net.nodes(), step.i, step.k);
-    net.word(edge).meet(composed)
+    let first = between(net, rows, c, step.i, step.j);
+    let second = between(net, rows, c, step.j, step.k);
+    oriented(c, step.i, step.k, c.compose(first, second))
 }
 
 /// Takes a step.
-fn take_step(net: &mut Net, trail: &mut Vec<Replaced>, c: &Fast, step: &Step) -> Result<(), Memory>
-    requires network { IsNetwork c.now net.old.nodes net.old.words }
+#[inline(always)]
+fn take_step<C: Compose>(
+    net: &mut Net,
+    trail: &mut Vec<Replaced>,
+    rows: &Rows,
+    c: &C,
+    step: &Step,
+) -> Result<(), Memory>
+    requires network { IsNetwork (C.algebra c.now) net.old.nodes net.old.words }
+    requires rows { rows.now ≡ net.old.nodes }
     requires proper { IsProperTriple net.old.nodes step.now.i step.now.j step.now.k }
     ensures words { OnOk result (net.new ≡ record net.old {
-      words = after_step c.now net.old.nodes net.old.words step.now;
+      words = after_step (C.algebra c.now) net.old.nodes net.old.words step.now;
     }) }
     ensures trail { OnOk result
         (KeepsTrail net.old.nodes net.old.words trail.old.items net.new.words trail.new.items) }
     ensures nodes { net.new.nodes ≡ net.old.nodes }
 {
-    let edge = edge_between(net.nodes(), step.i, step.k);
-    let set = set_after(net, c, step);
+    let composed = along(net, rows, c, step);
+    let edge = rows.edge(step.i, step.k);
+    let set = net.word(edge).meet(composed);
     replace(net, trail, edge, set)
 }
 
 /// Takes the steps, the first one first.
-fn take_steps(
+fn take_steps<C: Compose>(
     net: &mut Net,
     trail: &mut Vec<Replaced>,
-    c: &Fast,
+    rows: &Rows,
+    c: &C,
     steps: &[Step],
 ) -> Result<(), Memory>
-    requires network { IsNetwork c.now net.old.nodes net.old.words }
+    requires network { IsNetwork (C.algebra c.now) net.old.nodes net.old.words }
+    requires rows { rows.now ≡ net.old.nodes }
     requires proper { All (λ step. IsProperTriple net.old.nodes step.i step.j step.k) steps.now }
     ensures words { OnOk result (net.new ≡ record net.old {
-      words = after_steps c.now net.old.nodes net.old.words steps.now;
+      words = after_steps (C.algebra c.now) net.old.nodes net.old.words steps.now;
     }) }
     ensures trail { OnOk result
         (KeepsTrail net.old.nodes net.old.words trail.old.items net.new.words trail.new.items) }
     ensures nodes { net.new.nodes ≡ net.old.nodes }
 {
+    let Ok(()) = trail.reserve(steps.len()) else {
+        return Err(Memory);
+    };
     for step in steps {
-        take_step(net, trail, c, step)?;
+        take_step(net, trail, rows, c, step)?;
     }
     Ok(())
 }
@@ -129,10 +161,12 @@ fn work(
     alloc: Global,
     net: &mut Net,
     trail: &mut Vec<Replaced>,
-    c: &Fast,
+    rows: &Rows,
+    c: &Compositions,
     steps: &Steps,
 ) -> Result<(), Memory>
     requires network { IsNetwork c.now net.old.nodes net.old.words }
+    requires rows { rows.now ≡ net.old.nodes }
     requires steps { AreSteps net.old.nodes (node_steps steps.now) }
     ensures worked { OnOk result
         (IsWorked c.now net.old.nodes (node_steps steps.now) net.old.words net.new.words) }
@@ -142,10 +176,13 @@ fn work(
     ensures nodes { net.new.nodes ≡ net.old.nodes }
 {
     match steps {
-        Steps::List(steps) => take_steps(net, trail, c, steps),
+        Steps::List(steps) => match c.composer() {
+            Composer::Few(nibbles) => take_steps(net, trail, rows, nibbles, steps),
+            Composer::Many(fast) => take_steps(net, trail, rows, fast, steps),
+        },
         Steps::Sweep => {
             let mut closed = net.copy()?;
-            close(alloc, &mut closed, c)?;
+            close(alloc, &mut closed, c.calculus())?;
             replace_all(net, trail, &closed)
         }
     }
@@ -165,13 +202,14 @@ fn undo(net: &mut Net, trail: Vec<Replaced>)
 /// Networks above one another, each worked from the one under it.
 #[derive(Debug, Drop)]
 pub(crate) struct Stepped {
-    calculus: Fast,
+    calculus: Compositions,
+    rows: Rows,
     net: Net,
     trails: Vec<Vec<Replaced>>,
 }
 
 impl Model for Stepped {
-    ghost use Rattle.std.specs.Prelude.{◌<◌, false, map, reverse, All};
+    ghost use Rattle.std.specs.Prelude.{◌≡◌, ◌<◌, false, map, reverse, All};
     ghost use Rattle.network_words.specs.Edge.{edge_count};
     ghost use Rattle.refutation.specs.Networks.{NetworkStack, networks_under};
 
@@ -185,8 +223,8 @@ impl Model for Stepped {
       under = networks_under a.net.words (map (λ v. v.items) (reverse a.trails.items));
     } };
 
-    ghost invariant = { λ a.
-        All (λ v. All (λ r. r.edge < edge_count a.net.nodes) v.items) a.trails.items };
+    ghost invariant = { λ a. (a.rows ≡ a.net.nodes)
+        × All (λ v. All (λ r. r.edge < edge_count a.net.nodes) v.items) a.trails.items };
 }
 
 impl Stepped {
@@ -201,12 +239,13 @@ impl Stepped {
     ghost use Rattle.refutation.specs.Passes.{AreStepsOf};
     ghost use Rattle.refutation.specs.Networks.{NetworkStack, IsStackOf};
 
-    /// The one network that is worked from a given one.
+    /// The one network that is worked from a given one. Whether many steps will be taken makes it faster alone.
     pub(crate) fn new<C: Compose>(
         alloc: Global,
         net: &Net,
         c: &C,
         steps: &Steps,
+        many: bool,
     ) -> Result<Stepped, Memory>
         requires network { IsNetwork (C.algebra c.now) net.now.nodes net.now.words }
         requires steps { AreSteps net.now.nodes (node_steps steps.now) }
@@ -214,12 +253,14 @@ impl Stepped {
             (IsStackOf (C.algebra c.now) net.now.nodes net.now.words (node_steps steps.now)) }
         ensures closed { IfOk result (λ stack. stack.is_closed ≡ false) }
     {
-        let calculus = Fast::of(alloc, c)?;
+        let calculus = Compositions::of(alloc, c, many)?;
+        let rows = Rows::of(alloc, net.nodes())?;
         let mut net = net.copy()?;
         let mut trail = Vec::new(alloc);
-        work(alloc, &mut net, &mut trail, &calculus, steps)?;
+        work(alloc, &mut net, &mut trail, &rows, &calculus, steps)?;
         Ok(Stepped {
             calculus,
+            rows,
             net,
             trails: Vec::new(alloc),
         })
@@ -241,12 +282,22 @@ impl Stepped {
         ensures steps { IfOk result (λ ruled.
             AreStepsOf cut (C.algebra c.now) net.now.nodes net.now.words ruled.1.items) }
     {
-        let calculus = Fast::of(alloc, c)?;
+        let calculus = Compositions::of(alloc, c, false)?;
+        let rows = Rows::of(alloc, net.nodes())?;
         let mut net = net.copy()?;
         let mut trail = Vec::new(alloc);
-        let steps = rule(alloc, &mut net, &mut trail, &calculus, cut, all)?;
+        let steps = rule(
+            alloc,
+            &mut net,
+            &mut trail,
+            &rows,
+            calculus.calculus(),
+            cut,
+            all,
+        )?;
         let stepped = Stepped {
             calculus,
+            rows,
             net,
             trails: Vec::new(alloc),
         };
@@ -304,7 +355,14 @@ impl Stepped {
         let mut trail = Vec::new(alloc);
         let met = self.net.word(edge).meet(part);
         replace(&mut self.net, &mut trail, edge, met)?;
-        work(alloc, &mut self.net, &mut trail, &self.calculus, steps)?;
+        work(
+            alloc,
+            &mut self.net,
+            &mut trail,
+            &self.rows,
+            &self.calculus,
+            steps,
+        )?;
         let Ok(()) = self.trails.push(trail) else {
             return Err(Memory);
         };
@@ -337,7 +395,15 @@ impl Stepped {
         let mut trail = Vec::new(alloc);
         let set = self.net.word(edge).meet(part);
         replace(&mut self.net, &mut trail, edge, set)?;
-        let steps = rule(alloc, &mut self.net, &mut trail, &self.calculus, cut, all)?;
+        let steps = rule(
+            alloc,
+            &mut self.net,
+            &mut trail,
+            &self.rows,
+            self.calculus.calculus(),
+            cut,
+            all,
+        )?;
         let Ok(()) = self.trails.push(trail) else {
             return Err(Memory);
         };

@@ -94,6 +94,7 @@ impl Tree {
 impl Node {
     ghost use Rattle.std.specs.Prelude.{◌≡◌, length};
     ghost use Rattle.refutation.specs.Tree.{is_split, split_parts};
+    ghost use Rattle.refutation.specs.Steps.{steps_count};
     ghost use Rattle.refutation.specs.TreeFault.{arity};
 
     /// Whether the node is a split.
@@ -111,6 +112,16 @@ impl Node {
             self.children.len()
         } else {
             0
+        }
+    }
+
+    /// The number of steps that the node lists.
+    pub(crate) fn steps_count(&self) -> usize
+        ensures { result ≡ steps_count self.now.steps }
+    {
+        match &self.steps {
+            Steps::Sweep => 0,
+            Steps::List(steps) => steps.len(),
         }
     }
 

@@ -5,11 +5,13 @@
 //! these nodes. Before the next node is entered the nodes are left whose children were all entered. So each node is
 //! entered and left once, and no call is made within a call.
 
+ghost use Rattle.std.specs.List.{sum_by};
 ghost use Rattle.std.specs.Prelude.{◌≡◌, ◌+◌, ◌<◌, ◌^◌, ◌⊎◌, ◌∷◌, [], IsTrue, length, reverse, true, false, All};
-ghost use Rattle.std.specs.Prelude.{IfOk, OnOk};
+ghost use Rattle.std.specs.Prelude.{◌≤◌, ◌↔◌, IfOk, OnOk};
 ghost use Rattle.std.specs.Prelude.{MatchResult};
 ghost use Rattle.network_words.specs.Network.{IsNetwork};
 ghost use Rattle.refutation.specs.Tree.{sweep};
+ghost use Rattle.refutation.specs.Steps.{steps_count};
 ghost use Rattle.refutation.specs.Refutes.{IsRefutation, union_of};
 ghost use Rattle.refutation.specs.TreeFault.{AreFormed, IsNetworkFault};
 ghost use Rattle.refutation.specs.Ways.{IsSound, IsFaultAt, IsStanding, IsArrived, HasLast, HasNext, IsReady};
@@ -21,6 +23,9 @@ use crate::tree::{Kind, Node, Steps};
 use calculus_table::{Compose, Memory, Rel};
 use network_words::Net;
 use std::alloc::Global;
+
+/// So many steps are many: twice as many as there are compositions in a table.
+const MANY: usize = 2048;
 
 /// A node on the way.
 #[derive(Clone, Copy, Debug, PartialEq, Eq)]
@@ -206,6 +211,17 @@ fn are_swept(nodes: &[Node]) -> bool
     nodes.iter().all(|node| matches!(node.steps, Steps::Sweep))
 }
 
+/// Whether the nodes list so many steps together that tables for them pay.
+fn have_many_steps(nodes: &[Node]) -> bool
+    ensures { IsTrue result ↔ (MANY ≤ sum_by (λ node. steps_count node.steps) nodes.now) }
+{
+    let mut left = MANY;
+    for node in nodes {
+        left = left.saturating_sub(node.steps_count());
+    }
+    left == 0
+}
+
 /// The networks with that of the first node.
 fn first_networks<C: Compose>(
     alloc: Global,
@@ -223,7 +239,7 @@ fn first_networks<C: Compose>(
         return Networks::closed(alloc, net, c);
     }
     let first = &nodes[0];
-    Networks::stepped(alloc, net, c, &first.steps)
+    Networks::stepped(alloc, net, c, &first.steps, have_many_steps(nodes))
 }
 
 /// The first fault of the networks of a tree, if there is one.

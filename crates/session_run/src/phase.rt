@@ -72,7 +72,7 @@ pub(crate) fn narrow_together<R: Threads + Sync, C: Compose + Sync, G: Gate + Sy
         (steps_of done.items)) }
 {
     let workers = workers.min(net.edges()).max(1);
-    let count = sharing(net.edges(), workers);
+    let count = sharing(net.nodes(), c.size(), workers);
     let idle = workers - count;
     let (done, copies) = narrow_at_once(rt, alloc, net, closed, c, lines, count, idle, gate)?;
     close_held(rt, alloc, net, c, count, gate, copies)?;

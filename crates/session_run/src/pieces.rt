@@ -18,7 +18,7 @@ ghost use Rattle.session_run.specs.Phase.{IsPiece, HasWorked};
 
 use calculus_table::{Compose, Memory};
 use closure_seq::SliceCopy;
-use closure_workers::{close_slice_with, slice_end};
+use closure_workers::{close_slice_with, is_shared, slice_end};
 use edge_table::{OpenNet, Pass, Snapshot};
 use qsr_outside::Gate;
 use std::alloc::Global;
@@ -36,17 +36,14 @@ pub(crate) struct Piece {
     copy: Option<SliceCopy>,
 }
 
-/// How many of so many workers share the edges: all of them, or one where there are few edges.
-pub(crate) fn sharing(edges: u32, workers: u32) -> u32
+/// How many of so many workers share the edges among so many nodes, over a calculus of so many base relations: all of
+/// them, or one where sharing doesn't pay.
+pub(crate) fn sharing(nodes: u32, size: u32, workers: u32) -> u32
     requires { 0 < workers }
     ensures some { 0 < result }
     ensures few { result ≤ workers }
 {
-    if slice_end(edges, 0, workers) == 0 {
-        1
-    } else {
-        workers
-    }
+    if is_shared(nodes, size) { workers } else { 1 }
 }
 
 /// So many pieces, over which the edges are dealt out, each with a part of the pass. Returns what is left of it.

@@ -4,6 +4,7 @@ use Rattle.qsr_words.specs.Asked.{trace}
 use Rattle.qsr_words.specs.Requests.{check_of}
 use Rattle.qsr_top.specs.contracts.claims.Claimed.{the_view}
 use Rattle.qsr_top.proofs.Commands.{given_stopped, read_stopped, read_answered, read_memory}
+use Rattle.qsr_top.proofs.RuledOut.{traces_network}
 use Rattle.qsr_top.proofs.tracing.trace_answer.Goals as goal
 
 pub returns-in_err-claimed : goal.returns-in_err-claimed
@@ -25,7 +26,8 @@ returns-in-Ok g c =
     read_answered g.F.Source.documents g.F.Source.faults g.F.Source.given g.F.Source.absent_openings g.S.Source.left g.S.Source.faults g.S.Source.given
     (trace (check_of c.args.request.now)) refl c.args.shelf.now c.read_claimed.new.shelf c.args.source.now c.placed_network.new.source (the_view c.claimed.inside)
     (rw (← c.claimed.view_is) at c.in_ok-claimed.ensures.given) c.in_ok-net.net c.in_ok-net.ensures.source refl c.in-Ok.answer
-    (rw (← c.claimed.view_is) at c.in-Ok.ensures)
+    (traces_network (the_view c.claimed.inside).calculus c.in_ok-net.net (the_view c.claimed.inside).certificate c.lawful.ensures c.in_ok-net.ensures.network _ c.in-Ok.answer.status
+    (rw (← c.claimed.view_is) at c.in-Ok.ensures))
 
 pub returns : goal.returns
 returns g c =

@@ -1,10 +1,8 @@
 use Rattle.std.proofs.Common.{◌≡◌, ◌<◌, true, false, length, sym, ap, ◌∙◌, subst, arith}
 use Rattle.std.specs.Prelude.{slice_index}
-use Rattle.network_words.specs.Edge.{edge_between, edge_count, IsProperPair}
+use Rattle.network_words.specs.Edge.{edge_between, IsProperPair}
 use Rattle.network_words.specs.Network.{Network, IsNetwork}
 use Rattle.network_words.proofs.Pairs.{edge_between-lt}
-use Rattle.refutation.specs.Refutes.{after_step}
-use Rattle.refutation.specs.RuledSteps.{narrows}
 use Rattle.refutation.proofs.Worked.{after_step-network}
 use Rattle.refutation.proofs.Passes.{goes-left, goes-taken, ends-taken}
 use Rattle.refutation.proofs.ruling.look_at.Goals as goal

@@ -1,7 +1,7 @@
-use Rattle.std.proofs.Common.{◌≡◌, ◌≢◌, [], true, false, length, sum, sym, ap, ◌∙◌, subst, arith, Contains, rules}
+use Rattle.std.proofs.Common.{◌≡◌, true, false, length, sym, ap, ◌∙◌, subst, Contains, rules}
 use Rattle.std.specs.Prelude.{All}
 use Rattle.network_words.specs.Network.{Network, IsNetwork}
-use Rattle.refutation.specs.RuledSteps.{all_steps, AreCutSteps}
+use Rattle.refutation.specs.RuledSteps.{AreCutSteps}
 use Rattle.refutation.specs.Passes.{GoesThrough, EndsAmong, AreStepsOf}
 use Rattle.refutation.proofs.Trails.{KeepsTrail-then, KeepsTrail-nodes, words-then}
 use Rattle.refutation.proofs.RuledSteps.{IsProperStep, all_steps-proper}

@@ -8,8 +8,8 @@ use Rattle.refutation.proofs.Trails.{KeepsTrail-then, KeepsTrail-nodes, words-th
 use Rattle.refutation.proofs.stepped.take_steps.Goals as goal
 
 pub loop-step-preserved : goal.loop-step-preserved
-loop-step-preserved c =
-    let m = c.args.c.now in
+loop-step-preserved g c =
+    let m = g.C.Compose.algebra c.args.c.now in
     let old = c.args.net.now in
     let net = c.loop-step.net in
     let new = c.take_step.new.net in
@@ -25,6 +25,9 @@ loop-step-preserved c =
       network = rw (taken.nodes, words) (after_step-network m net.nodes net.words step inv.network);
       rest = words-then old net new (after_step m net.nodes net.words step) inv.rest taken.words;
       left = rw (taken.nodes, words) (ap (after_steps m net.nodes net.words) (sym here) ∙ inv.left);
-      trail = KeepsTrail-then old.nodes old.words net.words new.words c.args.trail.now.items c.loop-step.trail.items c.take_step.new.trail.items
+      trail = KeepsTrail-then old.nodes old.words net.words new.words c.reserve.new.self.items c.loop-step.trail.items c.take_step.new.trail.items
           inv.trail (KeepsTrail-nodes net.nodes old.nodes net.words new.words c.loop-step.trail.items c.take_step.new.trail.items nodes taken.trail);
     }
+
+pub returns-clause-trail : goal.returns-clause-trail
+returns-clause-trail g c = rw c.reserve.ensures.items at c.loop-step.invariant.trail

@@ -5,9 +5,9 @@ use Rattle.refutation.specs.Networks.{KeepsTrail}
 use Rattle.refutation.proofs.stepped.take_steps.Given as goal
 
 abbrev pub invariant-loop-step : goal.invariant-loop-step
-invariant-loop-step l = record {
-  network : IsNetwork l.c l.net.nodes l.net.words;
+invariant-loop-step g l = record {
+  network : IsNetwork (g.C.Compose.algebra l.c) l.net.nodes l.net.words;
   rest : l.net ≡ record l.initial.net { words = l.net.words };
-  left : after_steps l.c l.net.nodes l.net.words (drop l.step-index l.steps) ≡ after_steps l.c l.initial.net.nodes l.initial.net.words l.steps;
+  left : after_steps (g.C.Compose.algebra l.c) l.net.nodes l.net.words (drop l.step-index l.steps) ≡ after_steps (g.C.Compose.algebra l.c) l.initial.net.nodes l.initial.net.words l.steps;
   trail : KeepsTrail l.initial.net.nodes l.initial.net.words l.initial.trail.items l.net.words l.trail.items;
 }

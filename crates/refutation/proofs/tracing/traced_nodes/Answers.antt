@@ -4,8 +4,9 @@ use Rattle.std.proofs.lemmas.Option.{slice_get_read}
 use Rattle.std.proofs.lemmas.List.Elements.{All-nil}
 use Rattle.refutation.specs.declared.walking.Entered.{Entered}
 use Rattle.refutation.specs.Tree.{TreeNode, AreFewSteps, listed}
+use Rattle.refutation.specs.Networks.{NetworkStack}
 use Rattle.refutation.specs.Passes.{AreStepsOf}
-use Rattle.refutation.specs.Tracings.{with_steps, is_cut, IsTracing}
+use Rattle.refutation.specs.Tracings.{with_steps, is_cut}
 use Rattle.refutation.proofs.Numbered.{formed-tree}
 use Rattle.refutation.proofs.Tracings.{refuting-some, tracing-begun, traced-end}
 use Rattle.refutation.proofs.tracing.traced_nodes.Goals as goal
@@ -43,4 +44,15 @@ loop-x-init g c =
       algebra = stack.algebra_is;
       nodes = stack.nodes_are;
       few = c.in_ok-push_traced.ensures.few (subst (All (λ (y : TreeNode). AreFewSteps y.steps)) (sym c.new-traced.ensures.items) (All-nil (λ (y : TreeNode). AreFewSteps y.steps)));
+    }
+
+pub loop-x-preserved : goal.loop-x-preserved
+loop-x-preserved g c =
+    let before = c.loop-x.invariant in
+    let traced = c.in_ok-trace_next.ensures in
+    record {
+      tracing = rw before.algebra at traced.tracing;
+      algebra = ap (λ (s : NetworkStack). s.algebra) traced.rest ∙ before.algebra;
+      nodes = ap (λ (s : NetworkStack). s.nodes) traced.rest ∙ before.nodes;
+      few = traced.few before.few;
     }

@@ -31,10 +31,12 @@ pub invariant_of-self-2 : goal.invariant_of-self-2
 invariant_of-self-2 c =
     let n = c.self.inside.net.nodes in
     let t = trail c in
-    rw (c.in-Ok.ensures.items, c.in_ok-work.ensures.nodes, c.in_ok-replace.ensures.nodes)
-    (All-append (λ (v : Vec Replaced Global). All (λ (r : Replaced). r.edge < edge_count n) v.items) c.self.inside.trails.items (c.work.new.trail ∷ []) c.self.invariant
-    (All-cons (λ (v : Vec Replaced Global). All (λ (r : Replaced). r.edge < edge_count n) v.items) c.work.new.trail [] t.edges
-    (All-nil (λ (v : Vec Replaced Global). All (λ (r : Replaced). r.edge < edge_count n) v.items))))
+    rw (c.in-Ok.ensures.items, c.in_ok-work.ensures.nodes, c.in_ok-replace.ensures.nodes) (
+      c.self.invariant.0,
+      All-append (λ (v : Vec Replaced Global). All (λ (r : Replaced). r.edge < edge_count n) v.items) c.self.inside.trails.items (c.work.new.trail ∷ []) c.self.invariant.1
+          (All-cons (λ (v : Vec Replaced Global). All (λ (r : Replaced). r.edge < edge_count n) v.items) c.work.new.trail [] t.edges
+          (All-nil (λ (v : Vec Replaced Global). All (λ (r : Replaced). r.edge < edge_count n) v.items))),
+    )
 
 pub returns-clause-stack : goal.returns-clause-stack
 returns-clause-stack c =

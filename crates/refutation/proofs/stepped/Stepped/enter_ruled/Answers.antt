@@ -18,7 +18,7 @@ rule-requires-clause-network c =
     let a = c.self.inside in
     let net : IsNetwork a.calculus a.net.nodes a.net.words = rw (← c.self.view_is) at c.requires.network in
     let words = ap (λ (y : Network). y.words) c.in_ok-replace.ensures.words in
-    rw (c.in_ok-replace.ensures.nodes, words, c.meet-set.ensures, c.word.ensures) (met_at-network a.calculus a.net.nodes a.net.words c.args.edge c.args.part net)
+    rw (c.calculus.ensures, c.in_ok-replace.ensures.nodes, words, c.meet-set.ensures, c.word.ensures) (met_at-network a.calculus a.net.nodes a.net.words c.args.edge c.args.part net)
 
 -- what leads back to the network under the new one
 trail : (c : In-Ok) → IsTrail c.self.inside.net.nodes c.self.inside.net.words c.rule.new.net.words c.rule.new.trail.items
@@ -33,10 +33,12 @@ pub invariant_of-self-2 : goal.invariant_of-self-2
 invariant_of-self-2 c =
     let n = c.self.inside.net.nodes in
     let t = trail c in
-    rw (c.in-Ok.ensures.items, c.in_ok-steps.ensures.nodes, c.in_ok-replace.ensures.nodes)
-    (All-append (λ (v : Vec Replaced Global). All (λ (r : Replaced). r.edge < edge_count n) v.items) c.self.inside.trails.items (c.rule.new.trail ∷ []) c.self.invariant
-    (All-cons (λ (v : Vec Replaced Global). All (λ (r : Replaced). r.edge < edge_count n) v.items) c.rule.new.trail [] t.edges
-    (All-nil (λ (v : Vec Replaced Global). All (λ (r : Replaced). r.edge < edge_count n) v.items))))
+    rw (c.in-Ok.ensures.items, c.in_ok-steps.ensures.nodes, c.in_ok-replace.ensures.nodes) (
+      c.self.invariant.0,
+      All-append (λ (v : Vec Replaced Global). All (λ (r : Replaced). r.edge < edge_count n) v.items) c.self.inside.trails.items (c.rule.new.trail ∷ []) c.self.invariant.1
+          (All-cons (λ (v : Vec Replaced Global). All (λ (r : Replaced). r.edge < edge_count n) v.items) c.rule.new.trail [] t.edges
+          (All-nil (λ (v : Vec Replaced Global). All (λ (r : Replaced). r.edge < edge_count n) v.items))),
+    )
 
 pub returns-clause-stack : goal.returns-clause-stack
 returns-clause-stack c =
@@ -52,4 +54,4 @@ returns-clause-steps c =
     let words : c.replace.new.net.words ≡ met_at a.net.words c.args.edge c.args.part =
     ap (λ (y : Network). y.words) c.in_ok-replace.ensures.words ∙ ap (slice_set a.net.words c.args.edge) (c.meet-set.ensures ∙ ap (λ w. bit_and w c.args.part) c.word.ensures) in
     rw (← c.self.view_is) (subst (λ n. AreStepsOf c.args.cut a.calculus n (met_at a.net.words c.args.edge c.args.part) c.in_ok-steps.steps.items) c.in_ok-replace.ensures.nodes
-    (subst (λ ws. AreStepsOf c.args.cut a.calculus c.replace.new.net.nodes ws c.in_ok-steps.steps.items) words c.in_ok-steps.ensures.steps))
+    (subst (λ ws. AreStepsOf c.args.cut a.calculus c.replace.new.net.nodes ws c.in_ok-steps.steps.items) words (rw c.calculus.ensures at c.in_ok-steps.ensures.steps)))

@@ -1,0 +1,205 @@
+#!/usr/bin/env python3
+"""Times checks of certificates, beside a plain program in C++ on the same inputs in the same run.
+
+Usage: bench/certificates.py [--program PATH]      (default: the built program)
+
+It makes random networks of regions that have no scenario, has `solve` write their certificates and `trace` the traced ones,
+and times `solve`, `check` of both, and the same checks by the plain program, bench/plain_check.cpp, which closes and composes
+by tables over pairs of sets. They run in turn; the time of a run on a network of one node is taken off as the cost of the start.
+A small program over the library, which this writes, proves and builds in a folder for temporary files, tells how long reading
+the JSON alone, reading the certificate and writing it take. Prints for each size the sums of the median times in milliseconds,
+the ratios, and what part of the check is reading the JSON alone; and then, for one network, the times of trees that are twice as long each time, since
+each hangs the one before it under a split twice.
+"""
+import argparse, json, os, statistics, subprocess, sys, tempfile
+
+from search import random_network
+from timing import PROGRAM, TOP, build_program, timed
+
+TURNS = 5
+BUDGET = "10000"
+SIZES = [(20, 4), (30, 4), (40, 2)]
+DEPENDS = (
+    "cert_file refutation scenario closure_seq compose_fast line_files qsr_lex network_words calculus_table calculus_builtin serde_json"
+)
+
+PARTS = """//! Reads a certificate as JSON and as a certificate, and writes it again.
+//! Writes the microseconds of each, and whether the same bytes came out.
+#![tactic(auto)]
+
+use cert_file::{read, text};
+use serde_json::Value;
+use std::io;
+use std::io::Read;
+use std::time::Instant;
+
+fn main(rt: HostRuntime) -> io::Result<()> {
+    let alloc = rt.alloc();
+    let mut bytes = Vec::new(alloc);
+    rt.stdin().read_to_end(&mut bytes)?;
+    if bytes.len() > 16_777_216 {
+        return Ok(());
+    }
+    let start = Instant::now(&rt)?;
+    let is_json = Value::from_slice(alloc, &bytes).is_ok();
+    let as_json = start.elapsed(&rt)?.as_micros();
+    let start = Instant::now(&rt)?;
+    let Ok(certificate) = read(alloc, &bytes) else {
+        return Ok(());
+    };
+    let as_certificate = start.elapsed(&rt)?.as_micros();
+    let start = Instant::now(&rt)?;
+    let Ok(line) = text(alloc, &certificate) else {
+        return Ok(());
+    };
+    let as_text = start.elapsed(&rt)?.as_micros();
+    let same = is_json && line.as_bytes() == bytes.as_slice();
+    println!(rt; "{as_json} {as_certificate} {as_text} {same}")
+}
+"""
+
+
+class Files:
+    """The files of one network, and the commands over them."""
+
+    def __init__(self, folder, program, plain, parts):
+        self.folder, self.program, self.plain, self.parts = folder, program, plain, parts
+        self.start = self.write("start", "nodes 1\n.\n")
+        self.start_certificate = self.written(["solve", "rcc8", "--cert"], self.start, "start.cert")
+
+    def write(self, name, text):
+        path = os.path.join(self.folder, name)
+        with open(path, "w") as file:
+            file.write(text)
+        return path
+
+    def written(self, words, network, name):
+        """The file of what the command writes."""
+        with open(network) as source:
+            out = subprocess.run([self.program] + words, stdin=source, stdout=subprocess.PIPE, check=False).stdout.decode()
+        return self.write(name, out)
+
+    def beyond_start(self, command, network, start_command):
+        """The median time beyond that of the start right before."""
+        times = []
+        for _ in range(TURNS):
+            begun, _, _ = timed(start_command, self.start, 1)
+            taken, out, status = timed(command, network, 1)
+            if status not in (0, 1):
+                sys.exit(f"{' '.join(command)} ended with {status}: {out[:80].decode()}")
+            times.append(taken - begun)
+        return max(statistics.median(times), 0.001)
+
+    def solving(self, network):
+        words = [self.program, "solve", "rcc8", "--class", "none", "--budget", BUDGET, "--workers", "1"]
+        return self.beyond_start(words, network, words)
+
+    def checking(self, network, certificate):
+        words = [self.program, "check", "rcc8"]
+        return self.beyond_start(words + [certificate], network, words + [self.start_certificate])
+
+    def tracing(self, network, certificate):
+        words = [self.program, "trace", "rcc8"]
+        return self.beyond_start(words + [certificate], network, words + [self.start_certificate])
+
+    def plainly(self, network, certificate):
+        return self.beyond_start([self.plain, certificate], network, [self.plain, self.start_certificate])
+
+    def json_parts(self, certificate):
+        """The milliseconds of reading the JSON, of reading the certificate and of writing it."""
+        runs = []
+        for _ in range(TURNS):
+            with open(certificate) as source:
+                *times, same = subprocess.run([self.parts], stdin=source, capture_output=True, check=True).stdout.decode().split()
+            if same != "true":
+                sys.exit(f"{certificate}: what is written differs from what was read")
+            runs.append([int(time) / 1000 for time in times])
+        return [statistics.median(column) for column in zip(*runs)]
+
+
+def refuted(files, nodes, count):
+    """The first networks of so many nodes that a search refutes, as files, with their certificates and the traced ones."""
+    found = []
+    for seed in range(1000 * nodes, 1000 * nodes + 100):
+        network = files.write(f"{seed}.net", random_network("rcc8", nodes, 12.5, seed))
+        certificate = files.written(["solve", "rcc8", "--class", "none", "--budget", BUDGET, "--cert"], network, f"{seed}.cert")
+        with open(certificate) as file:
+            told = json.load(file)
+        if told["verdict"] == "no" and len(told["tree"]) > 10:
+            found.append((network, certificate, files.written(["trace", "rcc8", certificate], network, f"{seed}.traced"), len(told["tree"])))
+        if len(found) == count:
+            break
+    return found
+
+
+def doubled(certificate):
+    """The same with its tree twice under a new first node, which narrows nothing."""
+    def moved(by):
+        return [[n[0], n[1], n[2], n[3], [child + by for child in n[4]]] + n[5:] if n[0] == "split" else n for n in tree]
+
+    tree = certificate["tree"]
+    first = ["split", 0, 1, [255, 255], [1, 1 + len(tree)]] + ([[]] if certificate["version"] == 2 else [])
+    return {**certificate, "tree": [first] + moved(1) + moved(1 + len(tree))}
+
+
+def size_of(path):
+    return os.path.getsize(path) / 1e6
+
+
+def main():
+    options = argparse.ArgumentParser(description=__doc__, formatter_class=argparse.RawDescriptionHelpFormatter)
+    options.add_argument("--program", default=PROGRAM[0], metavar="PATH")
+    program = options.parse_args().program
+    if not os.path.exists(program):
+        sys.exit(f"{program} isn't there: `rt ci` or `./higwadel --build` makes it")
+    with tempfile.TemporaryDirectory() as folder:
+        plain = os.path.join(folder, "plain_check")
+        subprocess.run(["g++", "-O2", "-o", plain, os.path.join(TOP, "bench/plain_check.cpp")], check=True)
+        parts = build_program(os.path.join(folder, "parts"), "certificate_parts", DEPENDS, {"src/main.rt": PARTS})
+        files = Files(folder, program, plain, parts)
+        for nodes, count in SIZES:
+            found = refuted(files, nodes, count)
+            tell_size(files, nodes, found)
+        tell_growth(files, found[0])
+
+
+def tell_size(files, nodes, found):
+    """One line for the certificates as they are written, and one for the traced ones."""
+    solve = sum(files.solving(network) for network, _, _, _ in found)
+    trace = sum(files.tracing(network, certificate) for network, certificate, _, _ in found)
+    many = sum(count for _, _, _, count in found)
+    print(f"{nodes} regions, {len(found)} networks, {many} nodes of trees: solve {solve:.1f} ms, trace {trace:.1f} ms")
+    untraced = 0
+    for kind, place in (("untraced", 1), ("traced", 2)):
+        check = sum(files.checking(row[0], row[place]) for row in found)
+        other = sum(files.plainly(row[0], row[place]) for row in found)
+        reading, whole, writing = (sum(column) for column in zip(*(files.json_parts(row[place]) for row in found)))
+        alone = max(check - whole, 0.001)
+        untraced = untraced or alone
+        print(
+            f"  {kind:8} {sum(size_of(row[place]) for row in found):6.2f} MB  check {check:8.1f} ms  plain {other:8.1f} ms  "
+            f"ratio {check / other:5.2f}  to solve {check / solve:5.2f}  JSON read {reading:7.1f} ms, {reading / check:4.0%} of the check, "
+            f"as a certificate {whole:7.1f} ms, written {writing:7.1f} ms  the tree alone {alone:7.1f} ms, of the untraced {alone / untraced:4.2f}",
+            flush=True,
+        )
+
+
+def tell_growth(files, row):
+    """The check of a tree that is twice as long each time, with its steps and without."""
+    network = row[0]
+    for kind, place in (("untraced", 1), ("traced", 2)):
+        with open(row[place]) as file:
+            certificate = json.load(file)
+        first = None
+        while True:
+            path = files.write("doubled", json.dumps(certificate, separators=(",", ":")) + "\n")
+            if size_of(path) > 16 or len(certificate["tree"]) > 200_000:
+                break
+            each = files.checking(network, path) / len(certificate["tree"]) * 1000
+            first = first or each
+            print(f"{kind}, {len(certificate['tree']):7} nodes, {size_of(path):6.2f} MB: {each:7.1f} us a node, {each / first:.2f}", flush=True)
+            certificate = doubled(certificate)
+
+
+if __name__ == "__main__":
+    main()
