@@ -19,7 +19,8 @@ TURNS = 7
 DEPENDS = "calculus_table calculus_builtin compose_fast network_words closure_seq"
 
 PROGRAM = """//! Walks on a path of closed networks as a search does, and on copies that are closed anew.
-//! Writes the steps, the microseconds of all of them on the path, the steps on copies and their microseconds, and whether the same sets came out.
+//! Writes the steps and the microseconds of all of them on the path, and then the steps on copies, their microseconds, and whether the same sets
+//! came out.
 #![tactic(auto)]
 
 ghost use Rattle.std.specs.Prelude.{◌≡◌, ◌<◌, IsTrue, IfOk};
@@ -307,39 +308,64 @@ fn steps_on(alloc: Global, net: &Net, c: &Fast) -> Result<Vec<Step>, Memory>
     steps_of(alloc, &mut path, TURNS)
 }
 
-fn main(rt: HostRuntime) -> io::Result<()> {
-    let alloc = rt.alloc();
-    let mut bytes = Vec::new(alloc);
-    rt.stdin().read_to_end(&mut bytes)?;
+/// Prints the number of steps and the microseconds that they take on a new path.
+fn print_path(rt: &HostRuntime, net: &Net, c: &Fast, steps: &[Step]) -> io::Result<()>
+    requires { IsNetwork c.now net.now.nodes net.now.words }
+{
+    let Ok(mut path) = ClosedPath::new(rt.alloc(), net, c) else {
+        return Ok(());
+    };
+    let Some(time) = path_time(rt, &mut path, steps)? else {
+        return Ok(());
+    };
+    println!(rt; "{} {time}", steps.len())
+}
+
+/// Prints the number of steps, the microseconds that they take on copies, and whether the sets are those of a path.
+fn print_copies(rt: &HostRuntime, net: &Net, c: &Fast, steps: &[Step]) -> io::Result<()>
+    requires { IsNetwork c.now net.now.nodes net.now.words }
+{
+    let Ok(path) = path_after(rt.alloc(), net, c, steps) else {
+        return Ok(());
+    };
+    let Some((time, same)) = copies_time(rt, net, c, &path, steps)? else {
+        return Ok(());
+    };
+    println!(rt; "{} {time} {same}", steps.len())
+}
+
+/// Walks on the network, and prints the times.
+fn print_times(rt: &HostRuntime, net: &Net, c: &Fast) -> io::Result<()>
+    requires { IsNetwork c.now net.now.nodes net.now.words }
+{
+    let Ok(steps) = steps_on(rt.alloc(), net, c) else {
+        return Ok(());
+    };
+    print_path(rt, net, c, &steps)?;
+    print_copies(rt, net, c, &steps[..steps.len() / 20])
+}
+
+/// RCC-8, or nothing out of memory.
+fn calculus(alloc: Global) -> Option<Fast> {
     let Ok(calculus) = rcc8(alloc) else {
+        return None;
+    };
+    Fast::new(alloc, &calculus).ok()
+}
+
+fn main(rt: HostRuntime) -> io::Result<()> {
+    let mut bytes = Vec::new(rt.alloc());
+    rt.stdin().read_to_end(&mut bytes)?;
+    let Some(fast) = calculus(rt.alloc()) else {
         return Ok(());
     };
-    let Ok(fast) = Fast::new(alloc, &calculus) else {
-        return Ok(());
-    };
-    let Some(net) = net_of(alloc, &bytes, &fast) else {
+    let Some(net) = net_of(rt.alloc(), &bytes, &fast) else {
         return Ok(());
     };
     if !is_network(&net, &fast) {
         return Ok(());
     }
-    let Ok(steps) = steps_on(alloc, &net, &fast) else {
-        return Ok(());
-    };
-    let Ok(mut path) = ClosedPath::new(alloc, &net, &fast) else {
-        return Ok(());
-    };
-    let Some(on_path) = path_time(&rt, &mut path, &steps)? else {
-        return Ok(());
-    };
-    let some = &steps[..steps.len() / 20];
-    let Ok(after) = path_after(alloc, &net, &fast, some) else {
-        return Ok(());
-    };
-    let Some((on_copies, same)) = copies_time(&rt, &net, &fast, &after, some)? else {
-        return Ok(());
-    };
-    println!(rt; "{} {on_path} {} {on_copies} {same}", steps.len(), some.len())
+    print_times(&rt, &net, &fast)
 }
 """
 
