@@ -18,6 +18,8 @@ from timing import PROGRAM, TOP, build_program, timed
 
 TURNS = 5
 BUDGET = "10000"
+# the megabytes of the longest text that the program takes
+LIMIT = 16.7
 SIZES = [(20, 4), (30, 4), (40, 2)]
 DEPENDS = (
     "cert_file refutation scenario closure_seq compose_fast line_files qsr_lex network_words calculus_table calculus_builtin serde_json"
@@ -27,34 +29,60 @@ PARTS = """//! Reads a certificate as JSON and as a certificate, and writes it a
 //! Writes the microseconds of each, and whether the same bytes came out.
 #![tactic(auto)]
 
-use cert_file::{read, text};
+use cert_file::{Cert, read, text};
 use serde_json::Value;
 use std::io;
 use std::io::Read;
-use std::time::Instant;
+use std::time::{Clock, Instant};
+
+/// The microseconds of reading the JSON, or nothing where it is none.
+fn json_time(rt: &(impl Clock + AllocGlobal), bytes: &[u8]) -> io::Result<Option<u128>> {
+    let start = Instant::now(rt)?;
+    let is_json = Value::from_slice(rt.alloc(), bytes).is_ok();
+    let time = start.elapsed(rt)?.as_micros();
+    if is_json { Ok(Some(time)) } else { Ok(None) }
+}
+
+/// The certificate, and the microseconds of reading it.
+fn timed(
+    rt: &(impl Clock + AllocGlobal),
+    bytes: &[u8],
+) -> io::Result<Option<(Cert, u128)>> {
+    if bytes.len() > 16_777_216 {
+        return Ok(None);
+    }
+    let start = Instant::now(rt)?;
+    let Ok(certificate) = read(rt.alloc(), bytes) else {
+        return Ok(None);
+    };
+    Ok(Some((certificate, start.elapsed(rt)?.as_micros())))
+}
+
+/// Prints the microseconds of writing the certificate, and whether these bytes come out.
+fn print_written(
+    rt: &HostRuntime,
+    certificate: &Cert,
+    bytes: &[u8],
+) -> io::Result<()> {
+    let start = Instant::now(rt)?;
+    let Ok(line) = text(rt.alloc(), certificate) else {
+        return Ok(());
+    };
+    let time = start.elapsed(rt)?.as_micros();
+    println!(rt; " {time} {}", line.as_bytes() == bytes)
+}
 
 fn main(rt: HostRuntime) -> io::Result<()> {
-    let alloc = rt.alloc();
-    let mut bytes = Vec::new(alloc);
+    let mut bytes = Vec::new(rt.alloc());
     rt.stdin().read_to_end(&mut bytes)?;
-    if bytes.len() > 16_777_216 {
-        return Ok(());
-    }
-    let start = Instant::now(&rt)?;
-    let is_json = Value::from_slice(alloc, &bytes).is_ok();
-    let as_json = start.elapsed(&rt)?.as_micros();
-    let start = Instant::now(&rt)?;
-    let Ok(certificate) = read(alloc, &bytes) else {
+    let Some(as_json) = json_time(&rt, &bytes)? else {
         return Ok(());
     };
-    let as_certificate = start.elapsed(&rt)?.as_micros();
-    let start = Instant::now(&rt)?;
-    let Ok(line) = text(alloc, &certificate) else {
+    let Some((certificate, as_certificate)) = timed(&rt, &bytes)? else {
         return Ok(());
     };
-    let as_text = start.elapsed(&rt)?.as_micros();
-    let same = is_json && line.as_bytes() == bytes.as_slice();
-    println!(rt; "{as_json} {as_certificate} {as_text} {same}")
+    print!(rt; "{as_json} {as_certificate}")?;
+    print_written(&rt, &certificate, &bytes)
 }
 """
 
@@ -125,8 +153,11 @@ def refuted(files, nodes, count):
         certificate = files.written(["solve", "rcc8", "--class", "none", "--budget", BUDGET, "--cert"], network, f"{seed}.cert")
         with open(certificate) as file:
             told = json.load(file)
-        if told["verdict"] == "no" and len(told["tree"]) > 10:
-            found.append((network, certificate, files.written(["trace", "rcc8", certificate], network, f"{seed}.traced"), len(told["tree"])))
+        if told["verdict"] != "no" or len(told["tree"]) <= 10:
+            continue
+        traced = files.written(["trace", "rcc8", certificate], network, f"{seed}.traced")
+        if size_of(traced) < LIMIT:
+            found.append((network, certificate, traced, len(told["tree"])))
         if len(found) == count:
             break
     return found
@@ -193,7 +224,7 @@ def tell_growth(files, row):
         first = None
         while True:
             path = files.write("doubled", json.dumps(certificate, separators=(",", ":")) + "\n")
-            if size_of(path) > 16 or len(certificate["tree"]) > 200_000:
+            if size_of(path) > LIMIT or len(certificate["tree"]) > 200_000:
                 break
             each = files.checking(network, path) / len(certificate["tree"]) * 1000
             first = first or each

@@ -1,7 +1,7 @@
 //! Certificates of networks over RCC-8 and over Ramsey's calculus of two colours.
 use super::CertFault::{Field, NotJson};
 use super::*;
-use refutation::{Kind, Tree};
+use refutation::{Kind, Node, Tree};
 use std::alloc::{AllocError, Global};
 use std::process::Abort;
 use std::test::Fail;
@@ -60,6 +60,12 @@ fn read_short(rt: &impl Abort, alloc: Global, bytes: &[u8]) -> Result<Cert, Cert
     read(alloc, bytes)
 }
 
+/// Reads the line of these pieces.
+fn read_pieces(rt: &impl Abort, alloc: Global, pieces: &[&str]) -> Result<Cert, Fail> {
+    let line = joined(alloc, pieces)?;
+    Ok(read_short(rt, alloc, line.as_bytes())?)
+}
+
 /// Asserts that a text is read as the certificate of this line.
 fn is_read_as(rt: &impl Abort, alloc: Global, bytes: &[u8], line: &str) -> Result<(), Fail> {
     let cert = read_short(rt, alloc, bytes)?;
@@ -99,17 +105,34 @@ fn a_tree_and_a_scenario_may_be_empty(rt: HostRuntime) -> Result<(), Fail> {
 }
 
 #[test]
-fn parts_of_a_certificate_are_read(rt: HostRuntime) -> Result<(), Fail> {
-    let line = joined(rt.alloc(), PARTS)?;
-    let cert = read_short(&rt, rt.alloc(), line.as_bytes())?;
-    let nodes = cert.nodes;
-    let claim = cert.claim;
-    assert_eq!(rt; (nodes, claim), (2, Claim::Yes));
-    let relations = cert.relations;
+fn nodes_and_claim_are_read(rt: HostRuntime) -> Result<(), Fail> {
+    let cert = read_pieces(&rt, rt.alloc(), PARTS)?;
+    assert_eq!(rt; (cert.nodes, cert.claim), (2, Claim::Yes));
+    Ok(())
+}
+
+#[test]
+fn names_of_relations_are_read(rt: HostRuntime) -> Result<(), Fail> {
+    let cert = read_pieces(&rt, rt.alloc(), PARTS)?;
+    let relations = &cert.relations;
     assert_eq!(rt; relations.len(), 8);
     assert_eq!(rt; relations[3].as_str(), "TPP");
-    let scenario = cert.scenario.ok_or("no scenario")?;
+    Ok(())
+}
+
+#[test]
+fn a_scenario_is_read(rt: HostRuntime) -> Result<(), Fail> {
+    let cert = read_pieces(&rt, rt.alloc(), PARTS)?;
+    let Some(scenario) = &cert.scenario else {
+        return Err(Fail::from("no scenario"));
+    };
     assert_eq!(rt; scenario.bases.as_slice(), [3u8].as_slice());
+    Ok(())
+}
+
+#[test]
+fn a_tree_is_read(rt: HostRuntime) -> Result<(), Fail> {
+    let cert = read_pieces(&rt, rt.alloc(), PARTS)?;
     has_one_split(&rt, &cert.tree);
     Ok(())
 }
@@ -118,12 +141,16 @@ fn parts_of_a_certificate_are_read(rt: HostRuntime) -> Result<(), Fail> {
 fn has_one_split(rt: &impl Abort, tree: &Tree) {
     let nodes = &tree.nodes;
     assert_eq!(rt; nodes.len(), 3);
-    let split = &nodes[0];
-    assert_eq!(rt; (split.kind, split.i, split.j), (Kind::Split, 0, 1));
-    assert_eq!(rt; split.parts.len(), 2);
-    assert_eq!(rt; split.parts[1].word(), 32);
-    assert_eq!(rt; split.children.as_slice(), [1u32, 2].as_slice());
+    is_split_of_parts(rt, &nodes[0]);
     assert_eq!(rt; nodes[2].kind, Kind::Later);
+}
+
+/// Asserts that the node is the split of the tangential part.
+fn is_split_of_parts(rt: &impl Abort, node: &Node) {
+    assert_eq!(rt; (node.kind, node.i, node.j), (Kind::Split, 0, 1));
+    assert_eq!(rt; node.parts.len(), 2);
+    assert_eq!(rt; node.parts[1].word(), 32);
+    assert_eq!(rt; node.children.as_slice(), [1u32, 2].as_slice());
 }
 
 /// Asserts the fault of a text.
@@ -132,102 +159,114 @@ fn has_fault(rt: &impl Abort, alloc: Global, text: &str, field: u32, index: u32)
     assert_eq!(rt; fault, Some(Field { field, index }), "{text}");
 }
 
+/// The text, the number of the key, and the index.
+const WRONG_KEYS: [(&str, u32, u32); 19] = [
+    (r#"[]"#, 0, 0),
+    (r#"{}"#, 6, 0),
+    (r#"{"nodes":0,"version":3}"#, 6, 0),
+    (r#"{"nodes":0,"version":"1"}"#, 6, 0),
+    (r#"{"nodes":0,"version":1.0}"#, 6, 0),
+    (r#"{"relations":[],"version":1}"#, 1, 0),
+    (r#"{"nodes":0,"relations":[],"version":1}"#, 1, 0),
+    (r#"{"nodes":257,"relations":[],"version":1}"#, 1, 0),
+    (r#"{"nodes":256,"verdict":"","version":1}"#, 2, 0),
+    (r#"{"nodes":1,"relations":[],"version":1}"#, 2, 0),
+    (r#"{"nodes":1,"relations":["a","1"],"version":1}"#, 2, 1),
+    (r#"{"nodes":1,"relations":["a","b","é"],"version":1}"#, 2, 2),
+    (r#"{"nodes":1,"relations":["a"],"version":1}"#, 5, 0),
+    (
+        r#"{"nodes":1,"relations":["a"],"verdict":"Yes","version":1}"#,
+        5,
+        0,
+    ),
+    (
+        r#"{"nodes":1,"relations":["a"],"verdict":"yes","version":1}"#,
+        3,
+        0,
+    ),
+    (
+        r#"{"nodes":1,"relations":["a"],"scenario":{},"verdict":"yes","version":1}"#,
+        3,
+        0,
+    ),
+    (
+        r#"{"nodes":1,"relations":["a"],"scenario":[0,256],"verdict":"yes","version":1}"#,
+        3,
+        1,
+    ),
+    (
+        r#"{"nodes":1,"relations":["a"],"scenario":[0,1,-1],"verdict":"yes","version":1}"#,
+        3,
+        2,
+    ),
+    (
+        r#"{"nodes":1,"relations":["a"],"verdict":"no","version":1}"#,
+        4,
+        0,
+    ),
+];
+
 #[test]
 fn the_first_wrong_key_is_told(rt: HostRuntime) -> Result<(), Fail> {
-    // text, number of the key, index
-    let table: [(&str, u32, u32); 19] = [
-        (r#"[]"#, 0, 0),
-        (r#"{}"#, 6, 0),
-        (r#"{"nodes":0,"version":3}"#, 6, 0),
-        (r#"{"nodes":0,"version":"1"}"#, 6, 0),
-        (r#"{"nodes":0,"version":1.0}"#, 6, 0),
-        (r#"{"relations":[],"version":1}"#, 1, 0),
-        (r#"{"nodes":0,"relations":[],"version":1}"#, 1, 0),
-        (r#"{"nodes":257,"relations":[],"version":1}"#, 1, 0),
-        (r#"{"nodes":256,"verdict":"","version":1}"#, 2, 0),
-        (r#"{"nodes":1,"relations":[],"version":1}"#, 2, 0),
-        (r#"{"nodes":1,"relations":["a","1"],"version":1}"#, 2, 1),
-        (r#"{"nodes":1,"relations":["a","b","é"],"version":1}"#, 2, 2),
-        (r#"{"nodes":1,"relations":["a"],"version":1}"#, 5, 0),
-        (
-            r#"{"nodes":1,"relations":["a"],"verdict":"Yes","version":1}"#,
-            5,
-            0,
-        ),
-        (
-            r#"{"nodes":1,"relations":["a"],"verdict":"yes","version":1}"#,
-            3,
-            0,
-        ),
-        (
-            r#"{"nodes":1,"relations":["a"],"scenario":{},"verdict":"yes","version":1}"#,
-            3,
-            0,
-        ),
-        (
-            r#"{"nodes":1,"relations":["a"],"scenario":[0,256],"verdict":"yes","version":1}"#,
-            3,
-            1,
-        ),
-        (
-            r#"{"nodes":1,"relations":["a"],"scenario":[0,1,-1],"verdict":"yes","version":1}"#,
-            3,
-            2,
-        ),
-        (
-            r#"{"nodes":1,"relations":["a"],"verdict":"no","version":1}"#,
-            4,
-            0,
-        ),
-    ];
-    for (text, field, index) in table {
+    for (text, field, index) in WRONG_KEYS {
         has_fault(&rt, rt.alloc(), text, field, index);
     }
     Ok(())
 }
 
+/// A text whose relations have 64 names and this last one.
+fn text_of_names(alloc: Global, last: &str) -> Result<String, AllocError> {
+    let mut text = String::new(alloc);
+    text.push_str(r#"{"nodes":1,"relations":["#)?;
+    for _ in 0..64u32 {
+        text.push_str(r#""a","#)?;
+    }
+    text.push_str(last)?;
+    text.push_str(r#"],"version":1}"#)?;
+    Ok(text)
+}
+
 #[test]
 fn a_name_too_many_is_told_after_wrong_names(rt: HostRuntime) -> Result<(), Fail> {
-    let mut many = String::new(rt.alloc());
-    for _ in 0..64u32 {
-        many.push_str("\"a\",")?;
-    }
     for (last, index) in [("\"b\"", 0), ("\"\"", 64)] {
-        let text = format!(in rt.alloc();
-            "{{\"nodes\":1,\"relations\":[{many}{last}],\"version\":1}}"
-        )?;
+        let text = text_of_names(rt.alloc(), last)?;
         has_fault(&rt, rt.alloc(), text.as_str(), 2, index);
     }
     Ok(())
 }
 
+/// The nodes, the version, and the index.
+const WRONG_NODES: [(&str, u32, u32); 13] = [
+    (r#"7"#, 1, 0),
+    (r#"[["empty"],[]]"#, 1, 1),
+    (r#"[["empty"],["empty"],["Empty"]]"#, 1, 2),
+    (r#"[["found",0]]"#, 1, 0),
+    (
+        r#"[["empty"],["split",0,1,[18446744073709551616],[1]]]"#,
+        1,
+        1,
+    ),
+    (r#"[["split",0,4294967296,[1],[1]]]"#, 1, 0),
+    (r#"[["split",0,1,[1],[4294967296]]]"#, 1, 0),
+    (r#"[["split",0,1,[1],[1],"sweep"]]"#, 1, 0),
+    (r#"[["empty"],["empty","sweep"]]"#, 1, 1),
+    (r#"[["empty","sweep"],["empty"]]"#, 2, 1),
+    (r#"[["empty","Sweep"]]"#, 2, 0),
+    (r#"[["empty",[[0,1]]]]"#, 2, 0),
+    (r#"[["found"],["later"],["found","sweep"]]"#, 2, 2),
+];
+
+/// A text of this version with these nodes in its tree.
+fn text_of_nodes(alloc: Global, nodes: &str, version: u32) -> Result<String, Fail> {
+    Ok(format!(in alloc;
+        r#"{{"nodes":1,"relations":["a"],"tree":{nodes},"verdict":"no","version":{version}}}"#
+    )?)
+}
+
 #[test]
 fn the_first_wrong_node_is_told(rt: HostRuntime) -> Result<(), Fail> {
-    // nodes, version, index
-    let table: [(&str, u32, u32); 13] = [
-        (r#"7"#, 1, 0),
-        (r#"[["empty"],[]]"#, 1, 1),
-        (r#"[["empty"],["empty"],["Empty"]]"#, 1, 2),
-        (r#"[["found",0]]"#, 1, 0),
-        (
-            r#"[["empty"],["split",0,1,[18446744073709551616],[1]]]"#,
-            1,
-            1,
-        ),
-        (r#"[["split",0,4294967296,[1],[1]]]"#, 1, 0),
-        (r#"[["split",0,1,[1],[4294967296]]]"#, 1, 0),
-        (r#"[["split",0,1,[1],[1],"sweep"]]"#, 1, 0),
-        (r#"[["empty"],["empty","sweep"]]"#, 1, 1),
-        (r#"[["empty","sweep"],["empty"]]"#, 2, 1),
-        (r#"[["empty","Sweep"]]"#, 2, 0),
-        (r#"[["empty",[[0,1]]]]"#, 2, 0),
-        (r#"[["found"],["later"],["found","sweep"]]"#, 2, 2),
-    ];
-    for (tree, version, index) in table {
-        let rest = format!(in rt.alloc(); "\"verdict\":\"no\",\"version\":{version}}}")?;
-        let text = format!(in rt.alloc();
-            "{{\"nodes\":1,\"relations\":[\"a\"],\"tree\":{tree},{rest}"
-        )?;
+    for (nodes, version, index) in WRONG_NODES {
+        let text = text_of_nodes(rt.alloc(), nodes, version)?;
         has_fault(&rt, rt.alloc(), text.as_str(), 4, index);
     }
     Ok(())

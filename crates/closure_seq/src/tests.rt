@@ -4,16 +4,19 @@ ghost use Rattle.network_words.specs.Network.{IsNetwork};
 
 use super::*;
 use calculus_builtin::{allen, point, rcc8};
-use calculus_table::{Compose, Rel};
+use calculus_table::{Calculus, Compose, Memory, Rel};
 use compose_fast::Fast;
-use network_words::Net;
+use network_words::{Net, NetFault};
 use std::alloc::Global;
+use std::mem;
 use std::process::Abort;
 use std::test::Fail;
 
 const TPP: u64 = 1 << 3;
 
 const NTPP: u64 = 1 << 4;
+
+const ANY: u64 = (1 << 8) - 1;
 
 fn is_network<C: Compose>(net: &Net, c: &C) -> bool
     ensures { IsTrue result → IsNetwork (C.algebra c.now) net.now.nodes net.now.words }
@@ -28,33 +31,72 @@ fn is_network<C: Compose>(net: &Net, c: &C) -> bool
     true
 }
 
+/// The network of so many nodes whose edges have these sets.
+fn net_of<C: Compose>(
+    rt: &impl Abort,
+    alloc: Global,
+    c: &C,
+    nodes: u32,
+    words: &[u64],
+) -> Result<Net, NetFault>
+    ensures { IfOk result (λ net. IsNetwork (C.algebra c.now) net.nodes net.words) }
+{
+    let mut net = Net::new(alloc, nodes, c.full())?;
+    for edge in 0..net.edges() {
+        assert!(rt; edge < net.edges() && (edge as usize) < words.len());
+        net.set(edge, Rel::of(words[edge as usize]));
+    }
+    assert!(rt; is_network(&net, c));
+    Ok(net)
+}
+
+/// Nodes, the sets of the edges, and those of the closure.
+const CLOSURES: [(u32, &[u64], &[u64]); 5] = [
+    (3, &[TPP, ANY, NTPP], &[TPP, NTPP, NTPP]),
+    (3, &[ANY, 0, ANY], &[0, 0, 0]),
+    (3, &[ANY, ANY, ANY], &[ANY, ANY, ANY]),
+    (2, &[0], &[0]),
+    (1, &[], &[]),
+];
+
 #[test]
 fn closes_small_networks_as_published(rt: HostRuntime) -> Result<(), Fail> {
     let c = rcc8(rt.alloc())?;
-    let full = c.full().word();
-    // nodes, the sets of the first edges, and those of the closure
-    let table: [(u32, [u64; 3], [u64; 3]); 5] = [
-        (3, [TPP, full, NTPP], [TPP, NTPP, NTPP]),
-        (3, [full, 0, full], [0, 0, 0]),
-        (3, [full, full, full], [full, full, full]),
-        (2, [0, 0, 0], [0, 0, 0]),
-        (1, [0, 0, 0], [0, 0, 0]),
-    ];
-    for (nodes, given, closed) in table {
-        let mut net = Net::new(rt.alloc(), nodes, c.full())?;
-        for edge in 0..net.edges() {
-            assert!(rt; edge < 3 && edge < net.edges());
-            net.set(edge, Rel::of(given[edge as usize]));
-        }
-        assert!(rt; is_network(&net, &c));
+    assert_eq!(rt; c.full().word(), ANY);
+    for (nodes, given, closed) in CLOSURES {
+        let mut net = net_of(&rt, rt.alloc(), &c, nodes, given)?;
         let mut work = Work::new(rt.alloc(), net.nodes())?;
         close_with(&mut net, &c, &mut work);
-        for edge in 0..net.edges() {
-            assert!(rt; edge < 3 && edge < net.edges());
-            assert_eq!(rt; net.word(edge).word(), closed[edge as usize]);
-        }
+        assert_eq!(rt; net.words(), closed);
     }
     Ok(())
+}
+
+/// The chain of so many nodes, each of which has `rel` to the next.
+fn chain<C: Compose>(
+    rt: &impl Abort,
+    alloc: Global,
+    c: &C,
+    nodes: u32,
+    rel: Rel,
+) -> Result<Net, NetFault>
+    ensures { IfOk result (λ net. IsNetwork (C.algebra c.now) net.nodes net.words) }
+{
+    let mut net = Net::new(alloc, nodes, c.full())?;
+    for i in 1..nodes {
+        assert!(rt; i < net.nodes());
+        let edge = net.edge(i - 1, i);
+        net.set(edge, rel);
+    }
+    assert!(rt; is_network(&net, c));
+    Ok(net)
+}
+
+/// Fails unless every set of the network is `rel`.
+fn assert_all(rt: &impl Abort, net: &Net, rel: Rel) {
+    for word in net.words() {
+        assert_eq!(rt; *word, rel.word(), "of {} nodes", net.nodes());
+    }
 }
 
 /// Fails unless the closure of a chain, each node of which has `rel` to the next, has `rel` between any two nodes.
@@ -65,17 +107,16 @@ fn assert_chain<C: Compose>(
     nodes: u32,
     rel: Rel,
 ) -> Result<(), Fail> {
-    let mut net = Net::new(alloc, nodes, c.full())?;
-    for i in 1..nodes {
-        assert!(rt; i < net.nodes() && net.nodes() <= 256);
-        let edge = network_words::edge_between(net.nodes(), i - 1, i);
-        assert!(rt; edge < net.edges());
-        net.set(edge, rel);
-    }
-    assert!(rt; is_network(&net, c));
+    let mut net = chain(rt, alloc, c, nodes, rel)?;
     close(alloc, &mut net, c)?;
-    for word in net.words() {
-        assert_eq!(rt; *word, rel.word(), "of {nodes} nodes");
+    assert_all(rt, &net, rel);
+    Ok(())
+}
+
+/// The same of short chains and of long ones.
+fn assert_chains<C: Compose>(rt: &impl Abort, alloc: Global, c: &C, rel: Rel) -> Result<(), Fail> {
+    for nodes in [2, 3, 15, 16, 17, 31, 33] {
+        assert_chain(rt, alloc, c, nodes, rel)?;
     }
     Ok(())
 }
@@ -83,30 +124,22 @@ fn assert_chain<C: Compose>(
 #[test]
 fn closes_chains_of_transitive_relations(rt: HostRuntime) -> Result<(), Fail> {
     let alloc = rt.alloc();
-    let regions = rcc8(alloc)?;
-    let fast = Fast::new(alloc, &regions)?;
-    let intervals = allen(alloc)?;
-    let points = point(alloc)?;
-    for nodes in [2, 3, 15, 16, 17, 31, 33] {
-        assert_chain(&rt, alloc, &regions, nodes, Rel::of(NTPP))?;
-        assert_chain(&rt, alloc, &fast, nodes, Rel::of(TPP | NTPP))?;
-        assert_chain(&rt, alloc, &intervals, nodes, Rel::of(1))?;
-        assert_chain(&rt, alloc, &points, nodes, Rel::of(1))?;
-    }
-    Ok(())
+    assert_chains(&rt, alloc, &rcc8(alloc)?, Rel::of(NTPP))?;
+    assert_chains(&rt, alloc, &allen(alloc)?, Rel::of(1))?;
+    assert_chains(&rt, alloc, &point(alloc)?, Rel::of(1))
+}
+
+#[test]
+fn closes_chains_with_fast_tables(rt: HostRuntime) -> Result<(), Fail> {
+    let alloc = rt.alloc();
+    let fast = Fast::new(alloc, &rcc8(alloc)?)?;
+    assert_chains(&rt, alloc, &fast, Rel::of(TPP | NTPP))
 }
 
 #[test]
 fn looks_at_few_edges_more_than_once(rt: HostRuntime) -> Result<(), Fail> {
     let c = rcc8(rt.alloc())?;
-    let mut net = Net::new(rt.alloc(), 40, c.full())?;
-    for i in 1..40 {
-        assert!(rt; net.nodes() == 40);
-        let edge = network_words::edge_between(net.nodes(), i - 1, i);
-        assert!(rt; edge < net.edges());
-        net.set(edge, Rel::of(TPP | NTPP));
-    }
-    assert!(rt; is_network(&net, &c));
+    let mut net = chain(&rt, rt.alloc(), &c, 40, Rel::of(TPP | NTPP))?;
     let mut work = Work::new(rt.alloc(), net.nodes())?;
     close_with(&mut net, &c, &mut work);
     // each of the 780 edges becomes smaller, so each is looked at
@@ -172,6 +205,38 @@ fn assert_changes(rt: &impl Abort, path: &ClosedPath, mut net: Net, below: &Net)
     assert_eq!(rt; net.words(), below.words());
 }
 
+/// Narrows a random edge of the path to a random part of its set. Returns both.
+fn narrow_at_random(
+    rt: &impl Abort,
+    path: &mut ClosedPath,
+    state: &mut u64,
+) -> Result<(u32, Rel), Memory> {
+    let edges = path.edges();
+    assert!(rt; 0 < edges);
+    let edge = random(state, edges);
+    let rel = path.word(edge).meet(Rel::of(*state));
+    assert!(rt; rel.within(path.word(edge)));
+    path.narrow(edge, rel)?;
+    Ok((edge, rel))
+}
+
+/// A copy of the network with another set of the edge, closed anew.
+fn closed_with<C: Compose>(
+    rt: &impl Abort,
+    alloc: Global,
+    c: &C,
+    net: &Net,
+    edge: u32,
+    rel: Rel,
+) -> Result<Net, Memory> {
+    let mut next = net.copy()?;
+    assert!(rt; edge < next.edges());
+    next.set(edge, rel);
+    assert!(rt; is_network(&next, c));
+    close(alloc, &mut next, c)?;
+    Ok(next)
+}
+
 /// Narrows a random edge of the path to a random part of its set, and closes a copy of `top`, its top, with that set
 /// anew. Returns the copy.
 fn narrow_both<C: Compose>(
@@ -181,19 +246,55 @@ fn narrow_both<C: Compose>(
     path: &mut ClosedPath,
     top: &Net,
     state: &mut u64,
-) -> Result<Net, Fail> {
-    let edges = path.edges();
-    assert!(rt; 0 < edges && edges == top.edges());
-    let edge = random(state, edges);
-    let rel = path.word(edge).meet(Rel::of(*state));
-    assert!(rt; rel.within(path.word(edge)));
-    path.narrow(edge, rel)?;
-    let mut next = top.copy()?;
-    assert!(rt; edge < next.edges());
-    next.set(edge, rel);
-    assert!(rt; is_network(&next, c));
-    close(alloc, &mut next, c)?;
-    Ok(next)
+) -> Result<Net, Memory> {
+    assert!(rt; path.edges() == top.edges());
+    let (edge, rel) = narrow_at_random(rt, path, state)?;
+    closed_with(rt, alloc, c, top, edge, rel)
+}
+
+/// Walks down, where there is a level below the top. Returns whether there is.
+fn down(path: &mut ClosedPath, top: &mut Net, below: &mut Vec<Net>) -> bool {
+    if path.is_first() {
+        return false;
+    }
+    let Some(last) = below.pop() else {
+        return false;
+    };
+    path.back();
+    *top = last;
+    true
+}
+
+/// Walks up at random. Returns whether the new top has an empty set.
+fn up<C: Compose>(
+    rt: &impl Abort,
+    alloc: Global,
+    c: &C,
+    path: &mut ClosedPath,
+    top: &mut Net,
+    below: &mut Vec<Net>,
+    state: &mut u64,
+) -> Result<bool, Fail> {
+    let next = narrow_both(rt, alloc, c, path, top, state)?;
+    let emptied = path.is_empty();
+    if !emptied {
+        assert_changes(rt, path, next.copy()?, top);
+    }
+    below.push(mem::replace(top, next))?;
+    Ok(emptied)
+}
+
+/// The path of one level, the closure of the network, which becomes its closure too.
+fn path_of<C: Compose>(
+    rt: &impl Abort,
+    alloc: Global,
+    c: &C,
+    net: &mut Net,
+) -> Result<ClosedPath, Memory> {
+    assert!(rt; is_network(net, c));
+    let path = ClosedPath::new(alloc, net, c)?;
+    close(alloc, net, c)?;
+    Ok(path)
 }
 
 /// Walks up and down a path at random, and closes each level anew beside it. Returns whether a level had an empty set.
@@ -202,33 +303,32 @@ fn walk<C: Compose>(
     alloc: Global,
     c: &C,
     nodes: u32,
-    steps: u32,
     state: &mut u64,
 ) -> Result<bool, Fail> {
     let mut top = random_net(rt, alloc, c, nodes, state)?;
-    assert!(rt; is_network(&top, c));
-    let mut path = ClosedPath::new(alloc, &top, c)?;
-    close(alloc, &mut top, c)?;
+    let mut path = path_of(rt, alloc, c, &mut top)?;
     let mut below = Vec::new(alloc);
     let mut emptied = false;
-    for _ in 0..steps {
-        if random(state, 5) < 2
-            && !path.is_first()
-            && let Some(last) = below.pop()
-        {
-            path.back();
-            top = last;
-        } else {
-            let next = narrow_both(rt, alloc, c, &mut path, &top, state)?;
-            if path.is_empty() {
-                emptied = true;
-            } else {
-                assert_changes(rt, &path, next.copy()?, &top);
-            }
-            below.push(top)?;
-            top = next;
+    for _ in 0..24 {
+        if random(state, 5) >= 2 || !down(&mut path, &mut top, &mut below) {
+            emptied |= up(rt, alloc, c, &mut path, &mut top, &mut below, state)?;
         }
         assert_top(rt, &path, &top);
+    }
+    Ok(emptied)
+}
+
+/// Walks over networks of so many nodes, of one calculus after another. Returns whether a level had an empty set.
+fn walk_each(
+    rt: &impl Abort,
+    alloc: Global,
+    calculi: &[Calculus],
+    nodes: u32,
+    state: &mut u64,
+) -> Result<bool, Fail> {
+    let mut emptied = false;
+    for c in calculi {
+        emptied |= walk(rt, alloc, c, nodes, state)?;
     }
     Ok(emptied)
 }
@@ -236,16 +336,12 @@ fn walk<C: Compose>(
 #[test]
 fn paths_are_what_closing_anew_says(rt: HostRuntime) -> Result<(), Fail> {
     let alloc = rt.alloc();
-    let regions = rcc8(alloc)?;
-    let intervals = allen(alloc)?;
-    let points = point(alloc)?;
+    let calculi = [rcc8(alloc)?, allen(alloc)?, point(alloc)?];
     let mut state = 88_172_645_463_325_252;
     let mut emptied = false;
     for nodes in [2, 3, 4, 5, 7, 15, 16, 17, 18, 33] {
         for _ in 0..4 {
-            emptied |= walk(&rt, alloc, &regions, nodes, 24, &mut state)?;
-            emptied |= walk(&rt, alloc, &intervals, nodes, 24, &mut state)?;
-            emptied |= walk(&rt, alloc, &points, nodes, 24, &mut state)?;
+            emptied |= walk_each(&rt, alloc, &calculi, nodes, &mut state)?;
         }
     }
     assert!(rt; emptied);
@@ -297,28 +393,26 @@ fn close_slice<C: Compose>(
     copy.matches(c, net.words())
 }
 
+/// Closes one slice after another. Returns whether each is closed.
+fn close_slices<C: Compose>(rt: &impl Abort, c: &C, copy: &mut SliceCopy, net: &mut Net) -> bool {
+    let mut closed = true;
+    for (from, to) in [(0, 100), (100, 101), (101, 780)] {
+        closed &= close_slice(rt, c, copy, net, from, to);
+    }
+    closed
+}
+
 #[test]
 fn slices_are_closed_on_copies(rt: HostRuntime) -> Result<(), Fail> {
     let c = rcc8(rt.alloc())?;
-    let mut net = Net::new(rt.alloc(), 40, c.full())?;
-    for i in 1..40 {
-        assert!(rt; net.nodes() == 40);
-        let edge = network_words::edge_between(net.nodes(), i - 1, i);
-        assert!(rt; edge < net.edges());
-        net.set(edge, Rel::of(TPP | NTPP));
-    }
+    let mut net = chain(&rt, rt.alloc(), &c, 40, Rel::of(TPP | NTPP))?;
     let mut copy = SliceCopy::new(rt.alloc(), 40)?;
     let mut closed = false;
     // a slice may take several turns, since there is room for so many notes alone
     for _ in 0..10 {
-        closed = true;
-        for (from, to) in [(0, 100), (100, 101), (101, 780)] {
-            closed &= close_slice(&rt, &c, &mut copy, &mut net, from, to);
-        }
+        closed = close_slices(&rt, &c, &mut copy, &mut net);
     }
     assert!(rt; closed);
-    for word in net.words() {
-        assert_eq!(rt; *word, TPP | NTPP);
-    }
+    assert_all(&rt, &net, Rel::of(TPP | NTPP));
     Ok(())
 }

@@ -247,7 +247,8 @@ fn close_among<R: Threads + Sync, C: Compose + Sync, G: Gate + Sync>(
 
 /// Closes the network by so many workers at once, from 1 to 64: its sets become those of its closure, the greatest
 /// closed network within it. Its names stay. Each worker passes the point of its number of `gate` as it begins, and
-/// 1000 more as it ends, in each round. If memory runs out the network is as before.
+/// 1000 more as it ends, in each round; a worker that has no edges doesn't where the gate is open. If memory runs out
+/// the network is as before.
 pub fn close_parallel<R: Threads + Sync, C: Compose + Sync, G: Gate + Sync>(
     rt: &R,
     alloc: Global,
@@ -264,11 +265,12 @@ pub fn close_parallel<R: Threads + Sync, C: Compose + Sync, G: Gate + Sync>(
     ensures memory { OnErr result (net.new ≡ net.old) }
 {
     let count = workers.min(net.edges()).max(1);
-    if count == 1 {
-        return close_alone(alloc, net, c, gate, 0);
+    let shared = is_shared(net.nodes(), c.size());
+    if count == 1 || !shared && gate.is_open() {
+        return close_alone(alloc, net, c, gate, count - 1);
     }
     let mut closed = net.copy()?;
-    if !is_shared(net.nodes(), c.size()) {
+    if !shared {
         *net = close_among(rt, alloc, closed, c, gate, count)?;
         return Ok(());
     }

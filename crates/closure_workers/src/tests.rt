@@ -4,11 +4,11 @@ ghost use Rattle.network_words.specs.Network.{IsNetwork};
 
 use super::*;
 use calculus_builtin::{allen, point, rcc8};
-use calculus_table::{Compose, Rel};
+use calculus_table::{Calculus, Compose, Memory, Rel};
 use closure_seq::close;
 use compose_fast::Fast;
 use edge_table::{Snapshot, open};
-use network_words::{Net, edge_between};
+use network_words::{Net, NetFault, edge_between};
 use qsr_outside::{Gate, NoGate};
 use std::alloc::Global;
 use std::process::Abort;
@@ -42,7 +42,7 @@ fn random_network<C: Compose>(
     nodes: u32,
     sparse: u64,
     start: u64,
-) -> Result<Net, Fail>
+) -> Result<Net, NetFault>
     requires { 0 < sparse }
 {
     let mut net = Net::new(alloc, nodes, c.full())?;
@@ -72,7 +72,7 @@ fn network_with<C: Compose>(
     nodes: u32,
     sparse: u64,
     base: u64,
-) -> Result<Net, Fail>
+) -> Result<Net, NetFault>
     requires { 0 < sparse }
 {
     let mut net = Net::new(alloc, nodes, c.full())?;
@@ -93,7 +93,7 @@ fn chain<C: Compose>(
     c: &C,
     nodes: u32,
     word: u64,
-) -> Result<Net, Fail> {
+) -> Result<Net, NetFault> {
     let mut net = Net::new(alloc, nodes, c.full())?;
     for i in 1..nodes {
         assert!(rt; i < net.nodes() && net.nodes() <= 256);
@@ -103,30 +103,92 @@ fn chain<C: Compose>(
     Ok(net)
 }
 
-/// Closes the network by each number of workers, also where they share few edges, and on one thread, and fails unless all
-/// are the same.
+/// The network closed on one thread.
+fn closed<C: Compose>(alloc: Global, c: &C, net: &Net) -> Result<Net, Memory>
+    requires { IsNetwork (C.algebra c.now) net.now.nodes net.now.words }
+{
+    let mut closed = net.copy()?;
+    close(alloc, &mut closed, c)?;
+    Ok(closed)
+}
+
+/// The network closed by so many workers, which pass the points of the gate.
+fn closed_by<R: Threads + Sync, C: Compose + Sync, G: Gate + Sync>(
+    rt: &R,
+    alloc: Global,
+    c: &C,
+    net: &Net,
+    workers: u32,
+    gate: &G,
+) -> Result<Net, Memory>
+    requires network { IsNetwork (C.algebra c.now) net.now.nodes net.now.words }
+    requires some { 0 < workers }
+    requires few { workers ≤ 64 }
+{
+    let mut closed = net.copy()?;
+    close_parallel(rt, alloc, &mut closed, c, workers, gate)?;
+    Ok(closed)
+}
+
+/// The network closed by so many workers, also where they share few edges.
+fn shared_by<R: Threads + Sync, C: Compose + Sync>(
+    rt: &R,
+    alloc: Global,
+    c: &C,
+    net: &Net,
+    workers: u32,
+) -> Result<Net, Memory>
+    requires network { IsNetwork (C.algebra c.now) net.now.nodes net.now.words }
+    requires some { 0 < workers }
+    requires few { workers ≤ 64 }
+{
+    let mut closed = net.copy()?;
+    close_held(rt, alloc, &mut closed, c, workers, &NoGate, Vec::new(alloc))?;
+    Ok(closed)
+}
+
+/// Closes the network by so many workers, also where they share few edges, and fails unless it then has these sets.
+fn assert_closed_by<R: Threads + Sync + Abort, C: Compose + Sync>(
+    rt: &R,
+    alloc: Global,
+    c: &C,
+    net: &Net,
+    workers: u32,
+    expected: &[u64],
+) -> Result<(), Fail> {
+    assert!(rt; is_network(net, c) && 0 < workers && workers <= 64);
+    let found = closed_by(rt, alloc, c, net, workers, &NoGate)?;
+    assert_eq!(rt; found.words(), expected, "by {workers} workers");
+    let shared = shared_by(rt, alloc, c, net, workers)?;
+    assert_eq!(rt; shared.words(), expected, "shared by {workers} workers");
+    Ok(())
+}
+
+/// Closes the network by each number of workers and on one thread, and fails unless all are the same.
 fn assert_same<R: Threads + Sync + Abort, C: Compose + Sync>(
     rt: &R,
     alloc: Global,
     c: &C,
     net: &Net,
 ) -> Result<(), Fail> {
-    let mut expected = net.copy()?;
-    assert!(rt; is_network(&expected, c));
-    close(alloc, &mut expected, c)?;
+    assert!(rt; is_network(net, c));
+    let expected = closed(alloc, c, net)?;
     for workers in [1, 2, 3, 4, 17, 64] {
-        let mut found = net.copy()?;
-        assert!(rt; is_network(&found, c) && 0 < workers && workers <= 64);
-        close_parallel(rt, alloc, &mut found, c, workers, &NoGate)?;
-        assert_eq!(rt; found.words(), expected.words(), "by {workers} workers");
-        let mut shared = net.copy()?;
-        assert!(rt; is_network(&shared, c) && 0 < workers && workers <= 64);
-        close_held(rt, alloc, &mut shared, c, workers, &NoGate, Vec::new(alloc))?;
-        assert_eq!(rt;
-            shared.words(),
-            expected.words(),
-            "shared by {workers} workers"
-        );
+        assert_closed_by(rt, alloc, c, net, workers, expected.words())?;
+    }
+    Ok(())
+}
+
+/// Closes random networks of one calculus that have so many nodes.
+fn assert_closures_of<R: Threads + Sync + Abort, C: Compose + Sync>(
+    rt: &R,
+    alloc: Global,
+    c: &C,
+    nodes: u32,
+) -> Result<(), Fail> {
+    for sparse in 1..6 {
+        let net = random_network(alloc, c, nodes, sparse, u64::from(nodes) * 1000 + sparse)?;
+        assert_same(rt, alloc, c, &net)?;
     }
     Ok(())
 }
@@ -138,15 +200,40 @@ fn assert_closures<R: Threads + Sync + Abort, C: Compose + Sync>(
     c: &C,
 ) -> Result<(), Fail> {
     for nodes in [1, 2, 3, 4, 5, 7, 10] {
-        for sparse in 1..6 {
-            let net = random_network(alloc, c, nodes, sparse, u64::from(nodes) * 1000 + sparse)?;
-            assert_same(rt, alloc, c, &net)?;
-        }
+        assert_closures_of(rt, alloc, c, nodes)?;
     }
     Ok(())
 }
 
-/// Closes larger networks of one calculus: chains of `link`, and networks of each density whose sets have all of `base`.
+/// Closes a chain of `link`.
+fn assert_chain<R: Threads + Sync + Abort, C: Compose + Sync>(
+    rt: &R,
+    alloc: Global,
+    c: &C,
+    nodes: u32,
+    link: u64,
+) -> Result<(), Fail> {
+    let net = chain(rt, alloc, c, nodes, link)?;
+    assert_same(rt, alloc, c, &net)
+}
+
+/// Closes networks of each density whose sets have all of `base`.
+fn assert_densities<R: Threads + Sync + Abort, C: Compose + Sync>(
+    rt: &R,
+    alloc: Global,
+    c: &C,
+    nodes: u32,
+    base: u64,
+) -> Result<(), Fail> {
+    for sparse in [1, 2, 8] {
+        let net = network_with(alloc, c, nodes, sparse, base)?;
+        assert_same(rt, alloc, c, &net)?;
+    }
+    Ok(())
+}
+
+/// Closes larger networks of one calculus: chains of `link`, networks of each density whose sets have all of `base`, and
+/// random ones.
 fn assert_larger<R: Threads + Sync + Abort, C: Compose + Sync>(
     rt: &R,
     alloc: Global,
@@ -155,12 +242,8 @@ fn assert_larger<R: Threads + Sync + Abort, C: Compose + Sync>(
     base: u64,
 ) -> Result<(), Fail> {
     for nodes in [17, 40, 70] {
-        let net = chain(rt, alloc, c, nodes, link)?;
-        assert_same(rt, alloc, c, &net)?;
-        for sparse in [1, 2, 8] {
-            let net = network_with(alloc, c, nodes, sparse, base)?;
-            assert_same(rt, alloc, c, &net)?;
-        }
+        assert_chain(rt, alloc, c, nodes, link)?;
+        assert_densities(rt, alloc, c, nodes, base)?;
         let net = random_network(alloc, c, nodes, u64::from(nodes), 7)?;
         assert_same(rt, alloc, c, &net)?;
     }
@@ -208,15 +291,48 @@ fn seen_closed<C: Compose>(alloc: Global, c: &C, net: &Net) -> Option<Snapshot>
     Some(snap)
 }
 
+/// Closes the network by a pass over its slices, and fails unless the pass has then seen the closure.
+fn assert_closed_by_slices<C: Compose>(
+    rt: &impl Abort,
+    alloc: Global,
+    c: &C,
+    net: &Net,
+) -> Result<(), Fail> {
+    assert!(rt; is_network(net, c));
+    let snap = seen_closed(alloc, c, net).ok_or("out of memory")?;
+    let expected = closed(alloc, c, net)?;
+    assert_eq!(rt; snap.words(), expected.words(), "of {} nodes", net.nodes());
+    Ok(())
+}
+
 #[test]
 fn a_pass_closes_slices(rt: HostRuntime) -> Result<(), Fail> {
     let c = rcc8(rt.alloc())?;
     for nodes in [2, 5, 40] {
-        let mut net = chain(&rt, rt.alloc(), &c, nodes, 24)?;
-        assert!(rt; is_network(&net, &c));
-        let snap = seen_closed(rt.alloc(), &c, &net).ok_or("out of memory")?;
-        close(rt.alloc(), &mut net, &c)?;
-        assert_eq!(rt; snap.words(), net.words(), "of {nodes} nodes");
+        let net = chain(&rt, rt.alloc(), &c, nodes, 24)?;
+        assert_closed_by_slices(&rt, rt.alloc(), &c, &net)?;
+    }
+    Ok(())
+}
+
+/// A network whose first set is empty, and the others are full.
+fn with_an_empty_set<C: Compose>(alloc: Global, c: &C, nodes: u32) -> Result<Net, NetFault> {
+    let mut net = Net::new(alloc, nodes, c.full())?;
+    set_within(&mut net, c, 0, 0);
+    Ok(net)
+}
+
+/// Closes the network by two workers, and fails unless every set is then empty.
+fn assert_emptied<R: Threads + Sync + Abort, C: Compose + Sync>(
+    rt: &R,
+    alloc: Global,
+    c: &C,
+    net: &Net,
+) -> Result<(), Fail> {
+    assert!(rt; is_network(net, c));
+    let closed = closed_by(rt, alloc, c, net, 2, &NoGate)?;
+    for word in closed.words() {
+        assert_eq!(rt; *word, 0);
     }
     Ok(())
 }
@@ -225,15 +341,25 @@ fn a_pass_closes_slices(rt: HostRuntime) -> Result<(), Fail> {
 fn one_empty_set_empties_all(rt: HostRuntime) -> Result<(), Fail> {
     let c = rcc8(rt.alloc())?;
     for nodes in [2, 3, 9] {
-        let mut net = Net::new(rt.alloc(), nodes, c.full())?;
-        set_within(&mut net, &c, 0, 0);
+        let net = with_an_empty_set(rt.alloc(), &c, nodes)?;
         assert_same(&rt, rt.alloc(), &c, &net)?;
-        assert!(rt; is_network(&net, &c));
-        close_parallel(&rt, rt.alloc(), &mut net, &c, 2, &NoGate)?;
-        for word in net.words() {
-            assert_eq!(rt; *word, 0);
-        }
+        assert_emptied(&rt, rt.alloc(), &c, &net)?;
     }
+    Ok(())
+}
+
+/// Closes a network of which nothing is known by so many workers, which pass the points of the gate.
+fn close_through<R: Threads + Sync + Abort, G: Gate + Sync>(
+    rt: &R,
+    alloc: Global,
+    c: &Calculus,
+    nodes: u32,
+    workers: u32,
+    gate: &G,
+) -> Result<(), Fail> {
+    let net = Net::new(alloc, nodes, c.full())?;
+    assert!(rt; is_network(&net, c) && 0 < workers && workers <= 64);
+    let _closed = closed_by(rt, alloc, c, &net, workers, gate)?;
     Ok(())
 }
 
@@ -264,14 +390,12 @@ impl Gate for Meeting {
 #[test]
 fn pieces_meet(rt: HostRuntime) -> Result<(), Fail> {
     let c = rcc8(rt.alloc())?;
-    let mut net = Net::new(rt.alloc(), 3, c.full())?;
-    assert!(rt; is_network(&net, &c));
     let gate = Meeting {
         reached: AtomicU64::new(0),
         passed: AtomicU64::new(0),
         missed: AtomicU64::new(0),
     };
-    close_parallel(&rt, rt.alloc(), &mut net, &c, 2, &gate)?;
+    close_through(&rt, rt.alloc(), &c, 3, 2, &gate)?;
     assert_eq!(rt; gate.passed.load(Ordering::SeqCst), 3);
     assert_eq!(rt; gate.missed.load(Ordering::SeqCst), 0);
     Ok(())
@@ -298,28 +422,40 @@ impl Gate for Counting {
     }
 }
 
+/// How often each piece of a network begins, how often it ends, and how many other points are passed.
+fn counted<R: Threads + Sync + Abort>(
+    rt: &R,
+    alloc: Global,
+    c: &Calculus,
+    nodes: u32,
+    workers: u32,
+) -> Result<(u64, u64, u64), Fail> {
+    let gate = Counting {
+        begun: AtomicU64::new(0),
+        ended: AtomicU64::new(0),
+        others: AtomicU64::new(0),
+    };
+    close_through(rt, alloc, c, nodes, workers, &gate)?;
+    let begun = gate.begun.load(Ordering::SeqCst);
+    let ended = gate.ended.load(Ordering::SeqCst);
+    Ok((begun, ended, gate.others.load(Ordering::SeqCst)))
+}
+
+/// Nodes, workers, and the pieces that there are, each counted once in 4 bits.
+const PIECES: [(u32, u32, u64); 5] = [
+    (1, 5, 0x1),
+    (2, 5, 0x1),
+    (3, 2, 0x11),
+    (3, 64, 0x111),
+    (6, 4, 0x1111),
+];
+
 #[test]
 fn each_piece_begins_once_and_ends_once(rt: HostRuntime) -> Result<(), Fail> {
     let c = rcc8(rt.alloc())?;
-    // nodes, workers, and the pieces that there are, each counted once in 4 bits
-    for (nodes, workers, pieces) in [
-        (1, 5, 0x1),
-        (2, 5, 0x1),
-        (3, 2, 0x11),
-        (3, 64, 0x111),
-        (6, 4, 0x1111),
-    ] {
-        let mut net = Net::new(rt.alloc(), nodes, c.full())?;
-        assert!(rt; is_network(&net, &c));
-        let gate = Counting {
-            begun: AtomicU64::new(0),
-            ended: AtomicU64::new(0),
-            others: AtomicU64::new(0),
-        };
-        close_parallel(&rt, rt.alloc(), &mut net, &c, workers, &gate)?;
-        assert_eq!(rt; gate.begun.load(Ordering::SeqCst), pieces);
-        assert_eq!(rt; gate.ended.load(Ordering::SeqCst), pieces);
-        assert_eq!(rt; gate.others.load(Ordering::SeqCst), 0);
+    for (nodes, workers, pieces) in PIECES {
+        let counts = counted(&rt, rt.alloc(), &c, nodes, workers)?;
+        assert_eq!(rt; counts, (pieces, pieces, 0));
     }
     Ok(())
 }

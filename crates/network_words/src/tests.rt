@@ -6,6 +6,7 @@ ghost use Rattle.calculus_table.specs.Composition.{full_of};
 use super::*;
 use calculus_table::{Calculus, Compose, Memory, Rel, TableFault};
 use std::alloc::Global;
+use std::process::Abort;
 use std::test::Fail;
 
 const BEFORE: u64 = 1;
@@ -47,7 +48,9 @@ fn point(alloc: Global) -> Result<Calculus, TableFault> {
     Calculus::new(alloc, names, 1, &CONVERSES, &table)
 }
 
-fn four_points(alloc: Global, c: &Calculus) -> Result<Net, NetFault> {
+fn four_points(alloc: Global, c: &Calculus) -> Result<Net, NetFault>
+    ensures { IfOk result (λ net. net.nodes ≡ 4) }
+{
     Net::new(alloc, 4, c.full())
 }
 
@@ -79,90 +82,157 @@ fn names(alloc: Global, words: &[&str]) -> Result<Vec<String>, Memory> {
     Ok(names)
 }
 
+/// Nodes and edges.
+const SIZES: [(u32, u32); 5] = [(1, 0), (2, 1), (4, 6), (128, 8128), (256, 32640)];
+
 #[test]
 fn networks_have_one_to_the_limit_of_nodes(rt: HostRuntime) -> Result<(), Fail> {
     let full = Rel::of(ANY);
-    for (nodes, edges) in [(1, 0), (2, 1), (4, 6), (128, 8128), (256, 32640)] {
+    for (nodes, edges) in SIZES {
         let net = Net::new(rt.alloc(), nodes, full)?;
         assert_eq!(rt; net.edges(), edges);
         assert_eq!(rt; net.words().len(), edges as usize);
         assert_eq!(rt; net.full(), full);
     }
-    for nodes in [0, 257, u32::MAX] {
-        let refused = Net::new(rt.alloc(), nodes, full).map(|net| net.nodes());
-        assert_eq!(rt; refused, Err(NetFault::Nodes));
-    }
     Ok(())
 }
+
+#[test]
+fn other_numbers_of_nodes_are_refused(rt: HostRuntime) {
+    for nodes in [0, 257, u32::MAX] {
+        let refused = Net::new(rt.alloc(), nodes, Rel::of(ANY)).map(|net| net.nodes());
+        assert_eq!(rt; refused, Err(NetFault::Nodes));
+    }
+}
+
+/// The nodes of an edge of four nodes, and its number.
+const EDGES: [(u32, u32, u32); 6] = [
+    (0, 1, 0),
+    (0, 2, 1),
+    (0, 3, 2),
+    (1, 2, 3),
+    (1, 3, 4),
+    (2, 3, 5),
+];
 
 #[test]
 fn edges_are_numbered_in_lexicographic_order(rt: HostRuntime) -> Result<(), Fail> {
     let c = point(rt.alloc())?;
     let net = four_points(rt.alloc(), &c)?;
-    assert!(rt; net.nodes() == 4);
-    assert_eq!(rt; net.edge(0, 1), 0);
-    assert_eq!(rt; net.edge(0, 2), 1);
-    assert_eq!(rt; net.edge(0, 3), 2);
-    assert_eq!(rt; net.edge(1, 2), 3);
-    assert_eq!(rt; net.edge(1, 3), 4);
-    assert_eq!(rt; net.edge(2, 3), 5);
-    // the nodes, the edge's nodes in either order, and its number
-    let rows = [
-        (4, 3, 1, 4),
-        (4, 1, 3, 4),
-        (2, 1, 0, 0),
-        (256, 255, 254, 32639),
-    ];
-    for (nodes, i, j, edge) in rows {
-        assert_eq!(rt; edge_between(nodes, i, j), edge, "{i} and {j} of {nodes}");
+    for (i, j, edge) in EDGES {
+        assert!(rt; i < j && j < net.nodes());
+        assert_eq!(rt; net.edge(i, j), edge);
     }
     Ok(())
 }
 
+/// The nodes, the edge's nodes in either order, and its number.
+const EITHER_ORDER: [(u32, u32, u32, u32); 4] = [
+    (4, 3, 1, 4),
+    (4, 1, 3, 4),
+    (2, 1, 0, 0),
+    (256, 255, 254, 32639),
+];
+
 #[test]
-fn facts_narrow_either_way_round(rt: HostRuntime) -> Result<(), Fail> {
-    let c = point(rt.alloc())?;
-    let mut net = four_points(rt.alloc(), &c)?;
+fn an_edge_has_one_number_in_either_order(rt: HostRuntime) {
+    for (nodes, i, j, edge) in EITHER_ORDER {
+        assert!(rt; nodes <= 256 && i < nodes && j < nodes && i != j);
+        assert_eq!(rt; edge_between(nodes, i, j), edge, "{i} and {j} of {nodes}");
+    }
+}
+
+/// Adds facts over the calculus to the network.
+fn add(rt: &impl Abort, c: &Calculus, net: &mut Net, facts: &[Fact]) -> Result<(), NetFault> {
+    assert!(rt; facts.len() <= 3 && are_of_the_calculus(c, facts));
+    net.add_facts(c, facts)
+}
+
+/// The sets of four points after three facts.
+const NARROWED: [u64; 6] = [ANY, SAME | AFTER, ANY, ANY, BEFORE, ANY];
+
+/// Four points, narrowed by three facts.
+fn narrowed(rt: &impl Abort, alloc: Global, c: &Calculus) -> Result<Net, NetFault> {
+    let mut net = four_points(alloc, c)?;
     let facts = [
         fact(2, 0, BEFORE | SAME),
         fact(0, 2, SAME | AFTER),
         fact(1, 3, BEFORE),
     ];
-    assert!(rt; are_of_the_calculus(&c, &facts));
-    net.add_facts(&c, &facts)?;
-    let words = [ANY, SAME | AFTER, ANY, ANY, BEFORE, ANY];
-    assert_eq!(rt; net.words(), words.as_slice());
-    assert_eq!(rt; net.copy()?.words(), words.as_slice());
+    add(rt, c, &mut net, &facts)?;
+    Ok(net)
+}
 
+#[test]
+fn facts_narrow_either_way_round(rt: HostRuntime) -> Result<(), Fail> {
+    let c = point(rt.alloc())?;
+    let net = narrowed(&rt, rt.alloc(), &c)?;
+    assert_eq!(rt; net.words(), NARROWED.as_slice());
+    assert_eq!(rt; net.copy()?.words(), NARROWED.as_slice());
+    Ok(())
+}
+
+#[test]
+fn the_first_faulty_fact_is_told_and_none_is_added(rt: HostRuntime) -> Result<(), Fail> {
+    let c = point(rt.alloc())?;
+    let mut net = narrowed(&rt, rt.alloc(), &c)?;
     let faulty = [fact(0, 1, BEFORE), fact(1, 1, SAME), fact(0, 9, SAME)];
-    assert!(rt; are_of_the_calculus(&c, &faulty));
     assert_eq!(rt;
-        net.add_facts(&c, &faulty),
+        add(&rt, &c, &mut net, &faulty),
         Err(NetFault::SelfEdge { at: 1 })
     );
     let absent = [fact(0, 9, SAME)];
-    assert!(rt; are_of_the_calculus(&c, &absent));
-    assert_eq!(rt; net.add_facts(&c, &absent), Err(NetFault::NoNode { at: 0 }));
-    assert_eq!(rt; net.words(), words.as_slice());
+    assert_eq!(rt;
+        add(&rt, &c, &mut net, &absent),
+        Err(NetFault::NoNode { at: 0 })
+    );
+    assert_eq!(rt; net.words(), NARROWED.as_slice());
     Ok(())
+}
+
+/// Gives the nodes these names.
+fn name(rt: &impl Abort, alloc: Global, net: &mut Net, words: &[&str]) -> Result<(), NetFault>
+    ensures { net.new.nodes ≡ net.old.nodes }
+{
+    let Ok(names) = names(alloc, words) else {
+        return Err(NetFault::Memory);
+    };
+    assert!(rt; names.len() == net.nodes() as usize);
+    net.set_names(names)?;
+    Ok(())
+}
+
+/// Four points with names, given after others of which one comes twice.
+fn named_points(rt: &impl Abort, alloc: Global, c: &Calculus) -> Result<Net, NetFault>
+    ensures { IfOk result (λ net. net.nodes ≡ 4) }
+{
+    let mut net = four_points(alloc, c)?;
+    let refused = name(rt, alloc, &mut net, &["a", "b", "a", "b"]);
+    assert_eq!(rt; refused, Err(NetFault::NameTwice { at: 2 }));
+    name(rt, alloc, &mut net, &["a", "b", "c", "d"])?;
+    Ok(net)
 }
 
 #[test]
 fn nodes_have_names(rt: HostRuntime) -> Result<(), Fail> {
     let c = point(rt.alloc())?;
-    let mut net = four_points(rt.alloc(), &c)?;
-    assert!(rt; net.nodes() == 4);
-    assert_eq!(rt; net.name(0), None);
-    let twice = names(rt.alloc(), &["a", "b", "a", "b"])?;
-    assert!(rt; twice.len() == 4);
-    assert_eq!(rt; net.set_names(twice), Err(NetFault::NameTwice { at: 2 }));
-    let once = names(rt.alloc(), &["a", "b", "c", "d"])?;
-    assert!(rt; once.len() == 4);
-    net.set_names(once)?;
+    let nameless = four_points(rt.alloc(), &c)?;
+    assert_eq!(rt; nameless.name(0), None);
+    let net = named_points(&rt, rt.alloc(), &c)?;
     assert_eq!(rt; net.name(3), Some("d"));
-    assert_eq!(rt; net.find(b"c"), Some(2));
-    assert_eq!(rt; net.find(b"e"), None);
-    assert_eq!(rt; net.find(b"\xFF"), None);
+    Ok(())
+}
+
+/// A name, and the node that has it.
+const FOUND: [(&[u8], Option<u32>); 3] = [(b"c", Some(2)), (b"e", None), (b"\xFF", None)];
+
+#[test]
+fn nodes_are_found_by_their_names(rt: HostRuntime) -> Result<(), Fail> {
+    let c = point(rt.alloc())?;
+    let net = named_points(&rt, rt.alloc(), &c)?;
+    for (name, node) in FOUND {
+        assert_eq!(rt; net.find(name), node);
+    }
     assert_eq!(rt; net.copy()?.find(b"b"), Some(1));
     Ok(())
 }

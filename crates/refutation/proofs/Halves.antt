@@ -4,9 +4,9 @@ use Rattle.std.proofs.Math.Nat.{mod-one}
 use Rattle.std.specs.Prelude.{bit_or}
 use Rattle.calculus_table.specs.Rel.{IsWithin}
 use Rattle.calculus_table.specs.Algebra.{Algebra}
-use Rattle.calculus_table.specs.Composition.{full_of, composition, converse}
+use Rattle.calculus_table.specs.Composition.{full_of, composition}
 use Rattle.calculus_table.specs.Calculus.{IsTable}
-use Rattle.calculus_table.proofs.Compositions.{composition-union_l, composition-union_r, converse-union}
+use Rattle.calculus_table.proofs.Compositions.{composition-union_l}
 use Rattle.calculus_table.proofs.Sets.{IsWithin-antisym, IsWithin-trans, IsWithin-union, IsWithin-union_r, IsWithin-empty, IsWithin-refl, meet-within}
 use Rattle.compose_fast.specs.Nibbles.{nibble, set_of_place}
 use Rattle.compose_fast.proofs.Parts.{nibbles-more, nibbles-whole, nibble-within}
@@ -30,10 +30,3 @@ module _ (m : Algebra) (few : m.size ≤ 8) (x : ℕ) (within : IsWithin x (full
   pub composition-halves_l : (b : ℕ) → IsTable m →
       bit_or (composition m (set_at m (16 * 0 + nibble x 0)) b) (composition m (set_at m (16 * 1 + nibble x 1)) b) ≡ composition m x b
   composition-halves_l b k = sym (ap (λ y. composition m y b) halves ∙ composition-union_l m _ _ b k)
-
-  pub composition-halves_r : (a : ℕ) → IsTable m →
-      bit_or (composition m a (set_at m (16 * 0 + nibble x 0))) (composition m a (set_at m (16 * 1 + nibble x 1))) ≡ composition m a x
-  composition-halves_r a k = sym (ap (composition m a) halves ∙ composition-union_r m a _ _ k)
-
-  pub converse-halves : bit_or (converse m (set_at m (16 * 0 + nibble x 0))) (converse m (set_at m (16 * 1 + nibble x 1))) ≡ converse m x
-  converse-halves = sym (ap (converse m) halves ∙ converse-union m _ _)

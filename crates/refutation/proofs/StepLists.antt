@@ -1,8 +1,7 @@
 -- Lists of the steps of one number after another.
-use Rattle.std.proofs.Common.{◌≡◌, ℕ, ◌+◌, List, [], ◌++◌, ◌∙◌, ap, sym, append_assoc, add-one}
+use Rattle.std.proofs.Common.{◌≡◌, ℕ, ◌+◌, List, ◌++◌, ◌∙◌, ap, sym, append_assoc, add-one}
 use Rattle.refutation.specs.declared.tree.Step.{Step}
 use Rattle.refutation.specs.RuledSteps.{steps_below}
-use Rattle.refutation.proofs.Pendings.{append-nil}
 
 pub steps_below-more : (f : ℕ → List Step) (k : ℕ) (old now new : List Step) → now ≡ old ++ steps_below f k → new ≡ now ++ f k → new ≡ old ++ steps_below f (k + 1)
 steps_below-more f k old now new e g =

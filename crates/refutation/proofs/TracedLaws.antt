@@ -6,7 +6,7 @@ use Rattle.calculus_table.specs.Algebra.{Algebra}
 use Rattle.calculus_table.specs.Calculus.{IsCalculus}
 use Rattle.network_words.specs.Network.{IsNetwork}
 use Rattle.network_words.proofs.Networks.{Refines-refl}
-use Rattle.refutation.specs.Tree.{TreeNode, NodeSteps, sweep, NestedTree, leaf, split, Branches, no_branches, branch, leaf_node, bare, is_split_kind, size, parts_of, numbers_from, preorder, preorder_of_all, IsTree, AreTrees, HasBareLeaves}
+use Rattle.refutation.specs.Tree.{TreeNode, NodeSteps, sweep, NestedTree, leaf, split, Branches, no_branches, branch, leaf_node, bare, size, parts_of, numbers_from, preorder, preorder_of_all, IsTree, AreTrees, HasBareLeaves}
 use Rattle.refutation.specs.declared.tree.Kind.{Kind}
 use Rattle.refutation.specs.declared.tree.Kind.TheVariants.{Empty, Found, Open, Later, Split}
 use Rattle.refutation.specs.Refutes.{Refutes, IsRefutation}

@@ -1,6 +1,6 @@
 -- Traced trees: a tree that refutes a network has one, which refutes it too.
 use Rattle.std.proofs.Common.{◌≡◌, ◌≢◌, ◌⊎◌, ℕ, ◌+◌, ◌<◌, List, [], ◌∷◌, ◌++◌, length, set, refl, sym, ◌∙◌, ap, subst, arith, inl, inr, Contains}
-use Rattle.std.specs.Prelude.{slice_index, slice_set, bit_and, All}
+use Rattle.std.specs.Prelude.{slice_index, bit_and, All}
 use Rattle.std.proofs.Math.ListN.{get_or-eq_default}
 use Rattle.std.proofs.lemmas.Bool.{cases_lt}
 use Rattle.std.proofs.lemmas.List.{length-set, get_or-set_same}
@@ -14,12 +14,11 @@ use Rattle.network_words.specs.Network.{IsNetwork, Refines}
 use Rattle.network_words.specs.Closure.{IsClosure}
 use Rattle.network_words.proofs.Networks.{Refines-trans, set-cases}
 use Rattle.network_words.proofs.Refinements.{IsNetwork-refines}
-use Rattle.refutation.specs.declared.tree.Kind.{Kind}
-use Rattle.refutation.specs.declared.tree.Kind.TheVariants.{Empty, Found, Open, Later, Split}
+use Rattle.refutation.specs.declared.tree.Kind.TheVariants.{Split}
 use Rattle.refutation.specs.declared.tree.Step.{Step}
-use Rattle.refutation.specs.Tree.{TreeNode, NodeSteps, sweep, listed, NestedTree, leaf, split, Branches, no_branches, branch, size, size_of_all, parts_of, numbers_from, preorder, preorder_of_all, AreSteps, IsTree, AreTrees, leaf_node, bare, StandsFor, IsBareLeaf, HasBareLeaves}
+use Rattle.refutation.specs.Tree.{TreeNode, NodeSteps, sweep, listed, NestedTree, leaf, split, Branches, no_branches, branch, size, parts_of, preorder, preorder_of_all, AreSteps, IsTree, AreTrees, leaf_node, IsBareLeaf, HasBareLeaves}
 use Rattle.refutation.specs.Refutes.{after_step, after_steps, IsWorked, met_at, IsCovered, Refutes, EachRefutes}
-use Rattle.refutation.specs.RuledSteps.{AreRuledSteps, NoneEmptyBefore, AreCutSteps}
+use Rattle.refutation.specs.RuledSteps.{NoneEmptyBefore, AreCutSteps}
 use Rattle.refutation.specs.Traced.{HasShape, HaveShape, IsRuled, EachRuled}
 use Rattle.refutation.proofs.Pendings.{append-nil}
 use Rattle.refutation.proofs.Decided.{contains_empty}

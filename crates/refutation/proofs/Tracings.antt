@@ -1,6 +1,5 @@
 -- What is still to be traced, as the walk goes on.
-use Rattle.std.proofs.Common.{◌≡◌, ◌≢◌, ℕ, zero, suc, ◌+◌, ◌<◌, ◌≤◌, Bool, true, false, not, List, [], ◌∷◌, ◌++◌, length, map, drop, get_or, refl, sym, ◌∙◌, ap, subst, arith, append_assoc, add-one, if◌then◌else◌, slice_get, Some}
-use Rattle.std.proofs.Math.Seq.{drop-cons}
+use Rattle.std.proofs.Common.{◌≡◌, ℕ, zero, suc, ◌+◌, ◌<◌, ◌≤◌, Bool, true, false, not, List, [], ◌∷◌, ◌++◌, length, map, drop, get_or, refl, sym, ◌∙◌, ap, subst, arith, append_assoc, if◌then◌else◌, slice_get, Some}
 use Rattle.calculus_table.specs.Algebra.{Algebra}
 use Rattle.calculus_table.specs.Calculus.{IsCalculus}
 use Rattle.network_words.specs.Edge.{edge_at}
@@ -11,12 +10,12 @@ use Rattle.refutation.specs.declared.tree.Step.{Step}
 use Rattle.refutation.specs.declared.walking.Entered.{Entered}
 use Rattle.refutation.specs.Tree.{TreeNode, NodeSteps, sweep, listed, NestedTree, leaf, split, Branches, no_branches, branch, is_split, is_split_kind, leaf_node, bare, size, size_of_all, parts_of, numbers_from, preorder, preorder_of_all, split_parts, StandsFor}
 use Rattle.refutation.specs.Refutes.{after_steps, met_at, IsRefutation}
-use Rattle.refutation.specs.RuledSteps.{AreRuledSteps, AreCutSteps}
+use Rattle.refutation.specs.RuledSteps.{AreCutSteps}
 use Rattle.refutation.specs.Traced.{HasShape, HaveShape, IsRuled, EachRuled, IsTracedOf}
-use Rattle.refutation.specs.Ways.{Pending, pending_of, nodes_pending, IsOnWay, IsWay, HasLast, IsFinished}
+use Rattle.refutation.specs.Ways.{Pending, pending_of, nodes_pending, IsWay, HasLast, IsFinished}
 use Rattle.refutation.specs.Passes.{AreStepsOf}
-use Rattle.refutation.specs.Tracings.{with_steps, shape_of, is_cut, AllRuled, AreLeft, IsTracing, IsTracingAt, IsRuledAt}
-use Rattle.refutation.proofs.Pendings.{bare-kind, bare-split, leaf-kind, drop-there, head-same, tail-same, append-nil, nodes_pending-of, way-finished, way-next}
+use Rattle.refutation.specs.Tracings.{with_steps, shape_of, is_cut, AllRuled, AreLeft, IsTracing, IsTracingAt}
+use Rattle.refutation.proofs.Pendings.{bare-kind, bare-split, drop-there, head-same, tail-same, append-nil, nodes_pending-of, way-finished, way-next}
 use Rattle.refutation.proofs.RuledSteps.{ruled-unique, cut-unique}
 use Rattle.refutation.proofs.TracedTrees.{traced_tree}
 use Rattle.refutation.proofs.Worked.{after_steps-network}

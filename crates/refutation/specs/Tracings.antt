@@ -1,10 +1,10 @@
 -- A tree while it is traced: what is still to be traced.
-use Rattle.std.specs.Prelude.{◌≡◌, ℕ, ◌+◌, not, Bool, List, [], ◌∷◌, ◌++◌, length, map, drop, slice_get, Some}
+use Rattle.std.specs.Prelude.{◌≡◌, ℕ, not, Bool, List, [], ◌∷◌, ◌++◌, map, drop, slice_get, Some}
 use Rattle.calculus_table.specs.Algebra.{Algebra}
 use Rattle.refutation.specs.declared.tree.Step.{Step}
 use Rattle.refutation.specs.declared.walking.Entered.{Entered}
 use Rattle.network_words.specs.Network.{IsNetwork}
-use Rattle.refutation.specs.Tree.{TreeNode, NodeSteps, sweep, listed, NestedTree, is_split, bare, preorder, StandsFor}
+use Rattle.refutation.specs.Tree.{TreeNode, NodeSteps, sweep, NestedTree, is_split, bare, preorder, StandsFor}
 use Rattle.refutation.specs.Refutes.{after_steps}
 use Rattle.refutation.specs.Ways.{Pending, nodes_pending, IsWay}
 use Rattle.refutation.specs.Traced.{HasShape, IsRuled}

@@ -1,15 +1,15 @@
-//! Compositions by four look-ups.
+//! Compositions by two look-ups.
 //!
-//! A set of at most eight base relations is two nibbles. Composition distributes over unions, so that of two sets is the
-//! union of four: of each nibble of the first with each nibble of the second. There are 32 nibbles, 16 at either
-//! place, and a table has the compositions of each two. So a composition costs the same whatever the sets, without a
-//! loop, and a converse is two look-ups likewise. A larger calculus composes as `Fast` does: which of the two is asked
-//! once for all steps of a node, and not at each. So it does where few steps are taken, since making the table takes as
-//! long as a thousand compositions.
+//! A set of at most eight base relations is a byte, and two nibbles. Composition distributes over unions, so that of two
+//! sets is the union of two: of each nibble of the first with the second. There are 32 nibbles, 16 at either place, and
+//! 256 bytes, and a table of 8 KB has the compositions of each nibble with each byte. So a composition costs the same
+//! whatever the sets, without a loop, and a converse is one look-up likewise. A larger calculus composes as `Fast` does:
+//! which of the two is asked once for all steps of a node, and not at each. So it does where few steps are taken, since
+//! making the table takes as long as some thousand compositions.
 
 ghost use Rattle.std.specs.Prelude.{◌≡◌, ℕ, ◌+◌, ◌*◌, ◌<◌, ◌≤◌, length, slice_index, IfOk};
-ghost use Rattle.compose_fast.specs.Nibbles.{nibble, converse_of_place};
-ghost use Rattle.refutation.specs.Compositions.{set_at, pair_entry};
+ghost use Rattle.compose_fast.specs.Nibbles.{nibble};
+ghost use Rattle.refutation.specs.Compositions.{set_at, set_of_byte, pair_entry, converse_entry};
 
 use calculus_table::{Compose, Memory, Rel, lawful};
 use compose_fast::Fast;
@@ -19,12 +19,12 @@ use std::marker::Model;
 /// How many base relations a calculus has at most whose compositions are looked up.
 const FEW: u32 = 8;
 
-/// A calculus of few base relations, with the compositions and the converses of nibbles.
+/// A calculus of few base relations, with the compositions of nibbles with bytes and the converses of bytes.
 #[derive(Debug, Drop)]
 pub(crate) struct Nibbles {
     calculus: Fast,
-    pairs: Vec<Rel>,
-    converses: Vec<Rel>,
+    pairs: Vec<u8>,
+    converses: Vec<u8>,
 }
 
 impl Model for Nibbles {
@@ -56,38 +56,57 @@ fn set_at(c: &Fast, d: u32) -> Rel
     Rel::of(u64::from(d % 16) << (4 * (d / 16))).meet(c.full())
 }
 
-/// The composition of two nibbles, at its place in the table.
-fn pair_entry(c: &Fast, e: u32) -> Rel
-    requires { e < 1024 }
-    ensures { result ≡ pair_entry c.now e }
+/// The set of a byte, as far as that has base relations of the calculus.
+fn set_of_byte(c: &Fast, b: u32) -> Rel
+    requires { b < 256 }
+    ensures { result ≡ set_of_byte c.now b }
 {
-    c.compose(set_at(c, e / 32), set_at(c, e % 32))
+    Rel::of(u64::from(b)).meet(c.full())
 }
 
-/// The compositions of each two nibbles.
-fn pairs_of(alloc: Global, c: &Fast) -> Result<Vec<Rel>, Memory>
-    ensures length_is { IfOk result (λ pairs. length pairs.items ≡ 1024) }
-    ensures each { IfOk result (λ pairs. (e : ℕ) → e < 1024 →
+/// The composition of a nibble with a byte, at its place in the table.
+fn pair_entry(c: &Fast, e: u32) -> u8
+    requires few { c.now.size ≤ 8 }
+    requires below { e < 8192 }
+    ensures { result ≡ pair_entry c.now e }
+{
+    c.compose(set_at(c, e / 256), set_of_byte(c, e % 256))
+        .word() as u8
+}
+
+/// The converse of a byte.
+fn converse_entry(c: &Fast, b: u32) -> u8
+    requires few { c.now.size ≤ 8 }
+    requires below { b < 256 }
+    ensures { result ≡ converse_entry c.now b }
+{
+    c.converse(set_of_byte(c, b)).word() as u8
+}
+
+/// The compositions of each nibble with each byte.
+fn pairs_of(alloc: Global, c: &Fast) -> Result<Vec<u8>, Memory>
+    requires { c.now.size ≤ 8 }
+    ensures length_is { IfOk result (λ pairs. length pairs.items ≡ 8192) }
+    ensures each { IfOk result (λ pairs. (e : ℕ) → e < 8192 →
         slice_index pairs.items e ≡ pair_entry c.now e) }
 {
     let mut pairs = Vec::new(alloc);
-    for e in 0..1024 {
+    for e in 0..8192 {
         pairs.push(pair_entry(c, e)).map_err(|_| Memory)?;
     }
     Ok(pairs)
 }
 
-/// The converses of the nibbles.
-fn converses_of(alloc: Global, c: &Fast) -> Result<Vec<Rel>, Memory>
-    ensures length_is { IfOk result (λ converses. length converses.items ≡ 32) }
-    ensures each { IfOk result (λ converses. (d : ℕ) → d < 32 →
-        slice_index converses.items d ≡ converse_of_place c.now d) }
+/// The converses of the bytes.
+fn converses_of(alloc: Global, c: &Fast) -> Result<Vec<u8>, Memory>
+    requires { c.now.size ≤ 8 }
+    ensures length_is { IfOk result (λ converses. length converses.items ≡ 256) }
+    ensures each { IfOk result (λ converses. (b : ℕ) → b < 256 →
+        slice_index converses.items b ≡ converse_entry c.now b) }
 {
     let mut converses = Vec::new(alloc);
-    for d in 0..32 {
-        converses
-            .push(c.converse(set_at(c, d)))
-            .map_err(|_| Memory)?;
+    for b in 0..256 {
+        converses.push(converse_entry(c, b)).map_err(|_| Memory)?;
     }
     Ok(converses)
 }
@@ -120,10 +139,7 @@ impl Nibbles {
         requires within { IsWithin b (full_of self.now) }
         ensures { result ≡ composition self.now (set_at self.now d) b }
     {
-        lawful(&self.calculus);
-        let low = self.pairs[32 * d + place_of(b, 0)];
-        let high = self.pairs[32 * d + place_of(b, 1)];
-        low.union(high)
+        Rel::of(u64::from(self.pairs[256 * d + b.word() as usize]))
     }
 
     /// The union of the compositions of the members of `a` with those of `b`.
@@ -148,9 +164,7 @@ impl Nibbles {
         ensures calculus { IsCalculus self.now }
     {
         lawful(&self.calculus);
-        let low = self.converses[place_of(a, 0)];
-        let high = self.converses[place_of(a, 1)];
-        low.union(high)
+        Rel::of(u64::from(self.converses[a.word() as usize]))
     }
 }
 

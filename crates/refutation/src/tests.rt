@@ -196,192 +196,241 @@ const DETOUR: Row = (
 
 const STEPLESS: Row = (Kind::Empty, NONE, &[], &[], Some(&[]));
 
-#[test]
-fn tells_trees_that_refute_by_their_first_fault(rt: HostRuntime) -> Result<(), Fail> {
-    let table: [(&[Row], Result<(), TreeFault>); 24] = [
-        // part a makes 1, 3 and 5 a triangle of b, part b makes 2, 4 and 5 a triangle of a
-        (&[SPLIT, EMPTY, EMPTY], Ok(())),
-        (&[LISTED, FIRST, SECOND], Ok(())),
-        (&[LISTED, FIRST, EMPTY], Ok(())),
-        (
-            &[SPLIT, EMPTY, (Kind::Empty, (7, 3), &[9], &[5, 5], None)],
-            Ok(()),
-        ),
-        // a leaf with no empty set: nothing is narrowed, or too little
-        (&[EMPTY], Err(TreeFault::NotEmpty { node: 0 })),
-        (
-            &[
-                LISTED,
-                (Kind::Empty, NONE, &[], &[], Some(&[(1, 0, 5), (3, 0, 5)])),
-                SECOND,
-            ],
-            Err(TreeFault::NotEmpty { node: 1 }),
-        ),
-        (
-            &[LISTED, FIRST, (Kind::Empty, NONE, &[], &[], Some(&[]))],
-            Err(TreeFault::NotEmpty { node: 2 }),
-        ),
-        // parts that don't have each base relation
-        (
-            &[(Kind::Split, (0, 5), &[A], &[1], None), EMPTY],
-            Err(TreeFault::Uncovered { node: 0 }),
-        ),
-        // a leaf of another kind, which comes after the faults of nodes before it
-        (&[SPLIT, EMPTY, OPEN], Err(TreeFault::BadTree { node: 2 })),
-        (&[SPLIT, OPEN, OPEN], Err(TreeFault::BadTree { node: 1 })),
-        (
-            &[(Kind::Split, (0, 5), &[A], &[1], None), OPEN],
-            Err(TreeFault::Uncovered { node: 0 }),
-        ),
-        // no preorder list
-        (&[], Err(TreeFault::BadTree { node: 0 })),
-        (&[EMPTY, EMPTY], Err(TreeFault::BadTree { node: 1 })),
-        (
-            &[(Kind::Split, (0, 5), &[A, B], &[2, 1], None), EMPTY, EMPTY],
-            Err(TreeFault::BadTree { node: 0 }),
-        ),
-        (&[SPLIT, EMPTY], Err(TreeFault::BadTree { node: 0 })),
-        (
-            &[
-                (Kind::Split, (0, 5), &[6], &[1], None),
-                (Kind::Split, (0, 5), &[A, B], &[2, 3], None),
-                EMPTY,
-            ],
-            Err(TreeFault::BadTree { node: 1 }),
-        ),
-        // no split of an edge into as many parts as children
-        (
-            &[(Kind::Split, (5, 0), &[A, B], &[1, 2], None), EMPTY, EMPTY],
-            Err(TreeFault::BadTree { node: 0 }),
-        ),
-        (
-            &[(Kind::Split, (0, 6), &[A, B], &[1, 2], None), EMPTY, EMPTY],
-            Err(TreeFault::BadTree { node: 0 }),
-        ),
-        (
-            &[(Kind::Split, (0, 5), &[A], &[1, 2], None), EMPTY, EMPTY],
-            Err(TreeFault::BadTree { node: 0 }),
-        ),
-        (
-            &[(Kind::Split, (0, 5), &[], &[], None)],
-            Err(TreeFault::BadTree { node: 0 }),
-        ),
-        // a step that isn't of three different nodes
-        (
-            &[
-                LISTED,
-                (
-                    Kind::Empty,
-                    NONE,
-                    &[],
-                    &[],
-                    Some(&[(1, 0, 5), (3, 0, 5), (3, 1, 6)]),
-                ),
-                SECOND,
-            ],
-            Err(TreeFault::BadStep { node: 1, step: 2 }),
-        ),
-        (
-            &[
-                LISTED,
-                (
-                    Kind::Empty,
-                    NONE,
-                    &[],
-                    &[],
-                    Some(&[(1, 0, 5), (3, 0, 5), (3, 3, 5)]),
-                ),
-                SECOND,
-            ],
-            Err(TreeFault::BadStep { node: 1, step: 2 }),
-        ),
-        // forms come before networks, and within forms the first node
-        (
-            &[(Kind::Split, (0, 5), &[A], &[1], None), EMPTY, EMPTY],
-            Err(TreeFault::BadTree { node: 2 }),
-        ),
-        (
-            &[
-                (Kind::Split, (0, 5), &[A, B], &[1, 2], Some(&[(1, 1, 2)])),
-                EMPTY,
-            ],
-            Err(TreeFault::BadTree { node: 0 }),
-        ),
-    ];
+/// A split that leaves part b out.
+const HALF: Row = (Kind::Split, (0, 5), &[A], &[1], None);
+
+/// A tree, and what the check says of it over the six nodes.
+type Case<'a> = (&'a [Row<'a>], Result<(), TreeFault>);
+
+/// Trees that refute: part a makes 1, 3 and 5 a triangle of b, part b makes 2, 4 and 5 a triangle of a.
+const REFUTING: [Case; 4] = [
+    (&[SPLIT, EMPTY, EMPTY], Ok(())),
+    (&[LISTED, FIRST, SECOND], Ok(())),
+    (&[LISTED, FIRST, EMPTY], Ok(())),
+    (&[SPLIT, EMPTY, HOLDING], Ok(())),
+];
+
+/// Trees with a leaf with no empty set, as nothing is narrowed, or too little.
+const NARROWED_TOO_LITTLE: [Case; 3] = [
+    (&[EMPTY], Err(TreeFault::NotEmpty { node: 0 })),
+    (
+        &[
+            LISTED,
+            (Kind::Empty, NONE, &[], &[], Some(&[(1, 0, 5), (3, 0, 5)])),
+            SECOND,
+        ],
+        Err(TreeFault::NotEmpty { node: 1 }),
+    ),
+    (
+        &[LISTED, FIRST, STEPLESS],
+        Err(TreeFault::NotEmpty { node: 2 }),
+    ),
+];
+
+/// Trees with parts that don't have each base relation, or with a leaf of another kind, which comes after the faults of
+/// nodes before it.
+const OPEN_OR_UNCOVERED: [Case; 4] = [
+    (&[HALF, EMPTY], Err(TreeFault::Uncovered { node: 0 })),
+    (&[SPLIT, EMPTY, OPEN], Err(TreeFault::BadTree { node: 2 })),
+    (&[SPLIT, OPEN, OPEN], Err(TreeFault::BadTree { node: 1 })),
+    (&[HALF, OPEN], Err(TreeFault::Uncovered { node: 0 })),
+];
+
+/// Nodes that are no preorder list.
+const OUT_OF_ORDER: [Case; 5] = [
+    (&[], Err(TreeFault::BadTree { node: 0 })),
+    (&[EMPTY, EMPTY], Err(TreeFault::BadTree { node: 1 })),
+    (
+        &[(Kind::Split, (0, 5), &[A, B], &[2, 1], None), EMPTY, EMPTY],
+        Err(TreeFault::BadTree { node: 0 }),
+    ),
+    (&[SPLIT, EMPTY], Err(TreeFault::BadTree { node: 0 })),
+    (
+        &[
+            (Kind::Split, (0, 5), &[6], &[1], None),
+            (Kind::Split, (0, 5), &[A, B], &[2, 3], None),
+            EMPTY,
+        ],
+        Err(TreeFault::BadTree { node: 1 }),
+    ),
+];
+
+/// Trees with no split of an edge into as many parts as children.
+const BAD_SPLITS: [Case; 4] = [
+    (
+        &[(Kind::Split, (5, 0), &[A, B], &[1, 2], None), EMPTY, EMPTY],
+        Err(TreeFault::BadTree { node: 0 }),
+    ),
+    (
+        &[(Kind::Split, (0, 6), &[A, B], &[1, 2], None), EMPTY, EMPTY],
+        Err(TreeFault::BadTree { node: 0 }),
+    ),
+    (
+        &[(Kind::Split, (0, 5), &[A], &[1, 2], None), EMPTY, EMPTY],
+        Err(TreeFault::BadTree { node: 0 }),
+    ),
+    (
+        &[(Kind::Split, (0, 5), &[], &[], None)],
+        Err(TreeFault::BadTree { node: 0 }),
+    ),
+];
+
+/// Trees with a step that isn't of three different nodes.
+const BAD_STEPS: [Case; 2] = [
+    (
+        &[
+            LISTED,
+            (
+                Kind::Empty,
+                NONE,
+                &[],
+                &[],
+                Some(&[(1, 0, 5), (3, 0, 5), (3, 1, 6)]),
+            ),
+            SECOND,
+        ],
+        Err(TreeFault::BadStep { node: 1, step: 2 }),
+    ),
+    (
+        &[
+            LISTED,
+            (
+                Kind::Empty,
+                NONE,
+                &[],
+                &[],
+                Some(&[(1, 0, 5), (3, 0, 5), (3, 3, 5)]),
+            ),
+            SECOND,
+        ],
+        Err(TreeFault::BadStep { node: 1, step: 2 }),
+    ),
+];
+
+/// Trees with two faults: forms come before networks, and within forms the first node.
+const BAD_FORMS: [Case; 2] = [
+    (&[HALF, EMPTY, EMPTY], Err(TreeFault::BadTree { node: 2 })),
+    (
+        &[
+            (Kind::Split, (0, 5), &[A, B], &[1, 2], Some(&[(1, 1, 2)])),
+            EMPTY,
+        ],
+        Err(TreeFault::BadTree { node: 0 }),
+    ),
+];
+
+/// Trees with a part beyond the calculus, with children that aren't the next nodes, or with a node too many.
+const ODD: [Case; 5] = [
+    (
+        &[(Kind::Split, (0, 5), &[u64::MAX], &[1], None), EMPTY],
+        Err(TreeFault::NotEmpty { node: 1 }),
+    ),
+    (
+        &[(Kind::Split, (0, 5), &[A, B], &[1, 1], None), EMPTY, EMPTY],
+        Err(TreeFault::BadTree { node: 0 }),
+    ),
+    (
+        &[(Kind::Split, (0, 5), &[A, B], &[0, 2], None), EMPTY, EMPTY],
+        Err(TreeFault::BadTree { node: 0 }),
+    ),
+    (
+        &[(Kind::Split, (0, 5), &[A, B], &[1, 9], None), EMPTY, EMPTY],
+        Err(TreeFault::BadTree { node: 0 }),
+    ),
+    (
+        &[SPLIT, EMPTY, EMPTY, EMPTY],
+        Err(TreeFault::BadTree { node: 3 }),
+    ),
+];
+
+/// Checks each tree over the six nodes.
+fn assert_said(rt: &impl Abort, alloc: Global, table: &[Case]) -> Result<(), Fail> {
     for (rows, wanted) in table {
-        let (said, _splits) = checked(&rt, rt.alloc(), &SIX, 6, rows)?;
-        assert_eq!(rt; said, wanted, "of {} nodes", rows.len());
+        let (said, _splits) = checked(rt, alloc, &SIX, 6, rows)?;
+        assert_eq!(rt; said, *wanted, "of {} nodes", rows.len());
     }
     Ok(())
+}
+
+#[test]
+fn trees_refute_whose_leaves_have_empty_sets(rt: HostRuntime) -> Result<(), Fail> {
+    assert_said(&rt, rt.alloc(), &REFUTING)
+}
+
+#[test]
+fn the_first_leaf_with_no_empty_set_is_told(rt: HostRuntime) -> Result<(), Fail> {
+    assert_said(&rt, rt.alloc(), &NARROWED_TOO_LITTLE)
+}
+
+#[test]
+fn the_first_node_that_refutes_nothing_is_told(rt: HostRuntime) -> Result<(), Fail> {
+    assert_said(&rt, rt.alloc(), &OPEN_OR_UNCOVERED)
+}
+
+#[test]
+fn nodes_stand_in_preorder(rt: HostRuntime) -> Result<(), Fail> {
+    assert_said(&rt, rt.alloc(), &OUT_OF_ORDER)
+}
+
+#[test]
+fn an_edge_is_split_into_as_many_parts_as_children(rt: HostRuntime) -> Result<(), Fail> {
+    assert_said(&rt, rt.alloc(), &BAD_SPLITS)
+}
+
+#[test]
+fn steps_are_of_three_different_nodes(rt: HostRuntime) -> Result<(), Fail> {
+    assert_said(&rt, rt.alloc(), &BAD_STEPS)
+}
+
+#[test]
+fn forms_come_before_networks(rt: HostRuntime) -> Result<(), Fail> {
+    assert_said(&rt, rt.alloc(), &BAD_FORMS)
 }
 
 #[test]
 fn odd_numbers_and_parts_are_told(rt: HostRuntime) -> Result<(), Fail> {
-    let table: [(&[Row], TreeFault); 5] = [
-        (
-            &[(Kind::Split, (0, 5), &[u64::MAX], &[1], None), EMPTY],
-            TreeFault::NotEmpty { node: 1 },
-        ),
-        (
-            &[(Kind::Split, (0, 5), &[A, B], &[1, 1], None), EMPTY, EMPTY],
-            TreeFault::BadTree { node: 0 },
-        ),
-        (
-            &[(Kind::Split, (0, 5), &[A, B], &[0, 2], None), EMPTY, EMPTY],
-            TreeFault::BadTree { node: 0 },
-        ),
-        (
-            &[(Kind::Split, (0, 5), &[A, B], &[1, 9], None), EMPTY, EMPTY],
-            TreeFault::BadTree { node: 0 },
-        ),
-        (
-            &[SPLIT, EMPTY, EMPTY, EMPTY],
-            TreeFault::BadTree { node: 3 },
-        ),
-    ];
-    for (rows, wanted) in table {
-        let (said, _splits) = checked(&rt, rt.alloc(), &SIX, 6, rows)?;
-        assert_eq!(rt; said, Err(wanted));
-    }
-    Ok(())
+    assert_said(&rt, rt.alloc(), &ODD)
 }
+
+/// The search in five nodes, where both colours are open everywhere, up to the pentagon.
+const PENTAGON: [Row; 11] = [
+    (Kind::Split, (0, 1), &[A, B], &[1, 10], None),
+    (Kind::Split, (0, 2), &[A, B], &[2, 9], None),
+    (Kind::Split, (0, 3), &[A, B], &[3, 4], None),
+    EMPTY,
+    (Kind::Split, (0, 4), &[A, B], &[5, 6], None),
+    EMPTY,
+    (Kind::Split, (1, 3), &[A, B], &[7, 8], None),
+    FOUND,
+    LATER,
+    LATER,
+    LATER,
+];
 
 #[test]
 fn a_found_leaf_refutes_nothing(rt: HostRuntime) -> Result<(), Fail> {
-    // the search in five nodes, where both colours are open everywhere, up to the pentagon
-    let rows: [Row; 11] = [
-        (Kind::Split, (0, 1), &[A, B], &[1, 10], None),
-        (Kind::Split, (0, 2), &[A, B], &[2, 9], None),
-        (Kind::Split, (0, 3), &[A, B], &[3, 4], None),
-        EMPTY,
-        (Kind::Split, (0, 4), &[A, B], &[5, 6], None),
-        EMPTY,
-        (Kind::Split, (1, 3), &[A, B], &[7, 8], None),
-        FOUND,
-        LATER,
-        LATER,
-        LATER,
-    ];
-    let (said, splits) = checked(&rt, rt.alloc(), &[6; 10], 5, &rows)?;
+    let (said, splits) = checked(&rt, rt.alloc(), &[6; 10], 5, &PENTAGON)?;
     assert_eq!(rt; said, Err(TreeFault::BadTree { node: 7 }));
     assert_eq!(rt; splits, 5);
     Ok(())
 }
 
+/// The words, the nodes, the tree, and what the check says of it.
+const LEAVES: [(&[u64], u32, &[Row], Result<(), TreeFault>); 6] = [
+    (&[0], 2, &[EMPTY], Ok(())),
+    (&[0], 2, &[STEPLESS], Ok(())),
+    (&[A], 2, &[EMPTY], Err(TreeFault::NotEmpty { node: 0 })),
+    (&[A], 2, &[STEPLESS], Err(TreeFault::NotEmpty { node: 0 })),
+    (&[], 1, &[EMPTY], Err(TreeFault::NotEmpty { node: 0 })),
+    (&[], 1, &[STEPLESS], Err(TreeFault::NotEmpty { node: 0 })),
+];
+
 #[test]
 fn an_empty_set_needs_no_split(rt: HostRuntime) -> Result<(), Fail> {
-    // the words, the nodes, and what the check says of a leaf
-    let table: [(&[u64], u32, Result<(), TreeFault>); 3] = [
-        (&[0], 2, Ok(())),
-        (&[A], 2, Err(TreeFault::NotEmpty { node: 0 })),
-        (&[], 1, Err(TreeFault::NotEmpty { node: 0 })),
-    ];
-    for (words, nodes, wanted) in table {
-        for row in [EMPTY, (Kind::Empty, NONE, &[], &[], Some(&[]))] {
-            let (said, splits) = checked(&rt, rt.alloc(), words, nodes, &[row])?;
-            assert_eq!(rt; said, wanted, "of {nodes} nodes");
-            assert_eq!(rt; splits, 0);
-        }
+    for (words, nodes, rows, wanted) in LEAVES {
+        let (said, splits) = checked(&rt, rt.alloc(), words, nodes, rows)?;
+        assert_eq!(rt; said, wanted, "of {nodes} nodes");
+        assert_eq!(rt; splits, 0);
     }
     Ok(())
 }
@@ -455,12 +504,19 @@ fn trace_to(
     Ok(())
 }
 
+/// The tree by sweeps, by the ruled steps alone, and with more than it takes.
+const TRACEABLE: [&[Row]; 3] = [
+    &[SPLIT, EMPTY, EMPTY],
+    &[LISTED, FIRST, SECOND],
+    &[SPLIT, HOLDING, DETOUR],
+];
+
 #[test]
 fn lists_the_ruled_steps_of_each_node(rt: HostRuntime) -> Result<(), Fail> {
-    let wanted = [LISTED, FIRST, SECOND];
-    trace_to(&rt, rt.alloc(), &SIX, 6, &[SPLIT, EMPTY, EMPTY], &wanted)?;
-    trace_to(&rt, rt.alloc(), &SIX, 6, &wanted, &wanted)?;
-    trace_to(&rt, rt.alloc(), &SIX, 6, &[SPLIT, HOLDING, DETOUR], &wanted)
+    for rows in TRACEABLE {
+        trace_to(&rt, rt.alloc(), &SIX, 6, rows, &[LISTED, FIRST, SECOND])?;
+    }
+    Ok(())
 }
 
 #[test]
@@ -469,18 +525,17 @@ fn no_step_is_listed_where_a_set_is_empty(rt: HostRuntime) -> Result<(), Fail> {
     trace_to(&rt, rt.alloc(), &[A, 0, B], 3, &[EMPTY], &[STEPLESS])
 }
 
+/// Trees that the six nodes can't be traced along, and their faults.
+const UNTRACEABLE: [(&[Row], TreeFault); 4] = [
+    (&[], TreeFault::BadTree { node: 0 }),
+    (&[EMPTY], TreeFault::NotEmpty { node: 0 }),
+    (&[SPLIT, EMPTY, OPEN], TreeFault::BadTree { node: 2 }),
+    (&[HALF, EMPTY], TreeFault::Uncovered { node: 0 }),
+];
+
 #[test]
 fn tells_the_fault_of_a_tree_that_it_can_not_trace(rt: HostRuntime) -> Result<(), Fail> {
-    let table: [(&[Row], TreeFault); 4] = [
-        (&[], TreeFault::BadTree { node: 0 }),
-        (&[EMPTY], TreeFault::NotEmpty { node: 0 }),
-        (&[SPLIT, EMPTY, OPEN], TreeFault::BadTree { node: 2 }),
-        (
-            &[(Kind::Split, (0, 5), &[A], &[1], None), EMPTY],
-            TreeFault::Uncovered { node: 0 },
-        ),
-    ];
-    for (rows, wanted) in table {
+    for (rows, wanted) in UNTRACEABLE {
         let said = traced(&rt, rt.alloc(), &SIX, 6, rows)?.err();
         assert_eq!(rt; said, Some(wanted), "of {} nodes", rows.len());
     }

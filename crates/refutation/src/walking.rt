@@ -25,7 +25,7 @@ use network_words::Net;
 use std::alloc::Global;
 
 /// So many steps are many: twice as many as there are compositions in a table.
-const MANY: usize = 2048;
+const MANY: usize = 16_384;
 
 /// A node on the way.
 #[derive(Clone, Copy, Debug, PartialEq, Eq)]

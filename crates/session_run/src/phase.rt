@@ -1,7 +1,9 @@
 //! The sessions of a batch and the workers, at once on the words of one table, and then the closing.
 //!
 //! Each session has a pass, with which it states its facts and looks at words as they are, and so has each worker, with
-//! which it closes a range of the edges. They all begin at once, take no memory and wait for no lock.
+//! which it closes a range of the edges. They all may begin at once, take no memory and wait for no lock. Where the gate
+//! is open, nobody can tell in what order they do: the sessions then come first, since stating facts costs little, and
+//! threads are started only where several workers share the edges.
 //!
 //! Why it is right: words only become less, no step loses a closed network within what was stated, and each pass knows
 //! all that its session was told. The passes are joined at the end, and the words that the table is closed with are
@@ -26,7 +28,7 @@ ghost use Rattle.session_run.specs.Phase.{AreNarrowed, IsClosureWithin};
 
 use crate::pieces::{Piece, deal_pieces, gather_pieces, run_pieces, sharing};
 use crate::points::Points;
-use crate::sessions::{Session, deal_sessions, gather_sessions, run_sessions};
+use crate::sessions::{Session, deal_sessions, gather_sessions, run_rest, run_sessions};
 use crate::steps::Step;
 use calculus_table::{Compose, Memory, lawful};
 use closure_seq::SliceCopy;
@@ -126,8 +128,8 @@ fn narrow_at_once<R: Threads + Sync, C: Compose + Sync, G: Gate + Sync>(
     Ok((done, copies))
 }
 
-/// Runs the sessions and the pieces at once. So many threads at most pass the points of the gate, of which one begins
-/// first, since it takes a while until it does. Takes no memory.
+/// Runs the sessions and the pieces at once, or, where the gate is open, the sessions first. So many threads at most pass
+/// the points of the gate, of which one begins first, since it takes a while until it does. Takes no memory.
 fn run_at_once<R: Threads + Sync, C: Compose + Sync, G: Gate + Sync>(
     rt: &R,
     table: &OpenNet,
@@ -151,6 +153,9 @@ fn run_at_once<R: Threads + Sync, C: Compose + Sync, G: Gate + Sync>(
     ensures worked { All (HasWorked (C.algebra c.now) table.now) result.1.items }
     ensures count { length result.1.items ≡ length pieces.items }
 {
+    if gate.is_open() {
+        return run_in_turn(rt, table, c, gate, closed, points, sessions, pieces);
+    }
     if threads == 0 {
         return run_both(rt, table, c, gate, closed, points, 0, sessions, pieces);
     }
@@ -184,6 +189,34 @@ fn run_at_once<R: Threads + Sync, C: Compose + Sync, G: Gate + Sync>(
     };
     let (_, ran) = thread::join(rt, pass, rest);
     ran
+}
+
+/// Runs the sessions in this thread, and then the pieces, which so have all facts from the beginning.
+fn run_in_turn<R: Threads + Sync, C: Compose + Sync, G: Gate + Sync>(
+    rt: &R,
+    table: &OpenNet,
+    c: &C,
+    gate: &G,
+    closed: &[u64],
+    points: &Points,
+    mut sessions: Vec<Session>,
+    mut pieces: Vec<Piece>,
+) -> (Vec<Session>, Vec<Piece>)
+    requires calculus { C.algebra c.now ≡ algebra_of table.now.opening }
+    requires opening { IsNetwork (C.algebra c.now) table.now.opening.nodes table.now.opening.words }
+    requires closed_network { IsNetwork (C.algebra c.now) table.now.opening.nodes closed.now }
+    requires closed { IsClosed (C.algebra c.now) table.now.opening.nodes closed.now }
+    requires sessions { All (IsSession (C.algebra c.now) table.now) sessions.items }
+    requires some { 0 < length pieces.items }
+    requires pieces { All (IsPiece table.now) pieces.items }
+    ensures run { All (HasRun (C.algebra c.now) table.now) result.0.items }
+    ensures asked { asked_of_sessions result.0.items ≡ asked_of_sessions sessions.items }
+    ensures worked { All (HasWorked (C.algebra c.now) table.now) result.1.items }
+    ensures count { length result.1.items ≡ length pieces.items }
+{
+    run_rest(table, c, points, sessions.as_mut_slice());
+    run_pieces(rt, table, c, gate, closed, pieces.as_mut_slice());
+    (sessions, pieces)
 }
 
 /// Runs the pieces in threads of their own, and the sessions in this one. So many threads more may pass the points.

@@ -201,7 +201,12 @@ fn have_all_run(sessions: &[Session]) -> bool {
 }
 
 /// Runs the sessions that haven't run.
-fn run_rest<C: Compose>(table: &OpenNet, c: &C, points: &Points, sessions: &mut [Session])
+pub(crate) fn run_rest<C: Compose>(
+    table: &OpenNet,
+    c: &C,
+    points: &Points,
+    sessions: &mut [Session],
+)
     requires calculus { C.algebra c.now ≡ algebra_of table.now.opening }
     requires opening { IsNetwork (C.algebra c.now) table.now.opening.nodes table.now.opening.words }
     requires sessions { All (IsSession (C.algebra c.now) table.now) sessions.old }

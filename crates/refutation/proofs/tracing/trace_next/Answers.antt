@@ -1,7 +1,5 @@
-use Rattle.std.proofs.Common.{◌≡◌, ◌+◌, ◌∷◌, ◌++◌, [], reverse, refl, sym, ap, subst, ◌∙◌, slice_get, Some, arith}
-use Rattle.network_words.specs.Network.{IsNetwork}
+use Rattle.std.proofs.Common.{◌≡◌, ◌∷◌, reverse, refl, ap, ◌∙◌}
 use Rattle.refutation.specs.declared.walking.Entered.{Entered}
-use Rattle.refutation.specs.Tracings.{IsTracing, IsRuledAt}
 use Rattle.refutation.specs.Networks.{NetworkStack}
 use Rattle.refutation.specs.Ways.{IsFinished}
 use Rattle.refutation.proofs.Ways.{reverse-front, reverse-push, same-node, stack-left}

@@ -2,11 +2,22 @@ use Rattle.std.proofs.Common.{◌≡◌, ◌+◌, ◌*◌, ◌<◌, ap, ◌∙�
 use Rattle.std.specs.Prelude.{slice_index}
 use Rattle.std.proofs.lemmas.List.{get_or_read}
 use Rattle.calculus_table.specs.Composition.{composition}
-use Rattle.compose_fast.specs.Nibbles.{nibble}
-use Rattle.compose_fast.proofs.Parts.{nibble-lt}
+use Rattle.calculus_table.proofs.Sets.{meet-within}
+use Rattle.compose_fast.proofs.Parts.{full-lt}
 use Rattle.refutation.specs.Compositions.{set_at}
-use Rattle.refutation.proofs.Halves.{composition-halves_r}
 use Rattle.refutation.proofs.compositions.Nibbles.compose_place.Goals as goal
+
+pub overflow_add-d : goal.overflow_add-d
+overflow_add-d c =
+    let p = rw c.self.view_is at c.self.invariant in
+    let byte : c.args.b < 256 = full-lt c.args.self.now c.args.b 8 c.requires.within p.few in
+    rw c.word.ensures (omega (arith, c.requires.place, byte))
+
+pub index-requires : goal.index-requires
+index-requires c =
+    let p = rw c.self.view_is at c.self.invariant in
+    let byte : c.args.b < 256 = full-lt c.args.self.now c.args.b 8 c.requires.within p.few in
+    rw c.word.ensures (omega (arith, c.requires.place, byte, p.pairs_length))
 
 pub returns : goal.returns
 returns c =
@@ -15,15 +26,8 @@ returns c =
     let b = c.args.b in
     let p = rw c.self.view_is at c.self.invariant in
     let items = c.self.inside.pairs.items in
-    let first : 32 * d + c.place_of.result < 1024 = omega (arith, c.requires.place, c.place_of.ensures.below) in
-    let second : 32 * d + c.place_of-2.result < 1024 = omega (arith, c.requires.place, c.place_of-2.ensures.below) in
-    let low : c.index-low.result.now ≡ composition m (set_at m d) (set_at m (16 * 0 + nibble b 0)) =
-    get_or_read items _ _ (omega (arith, first, p.pairs_length)) c.index-low.ensures 0
-    ∙ ap (λ e. slice_index items (32 * d + e)) c.place_of.ensures.value
-    ∙ p.pairs_each d (16 * 0 + nibble b 0) c.requires.place (omega (arith, nibble-lt b 0)) in
-    let high : c.index-high.result.now ≡ composition m (set_at m d) (set_at m (16 * 1 + nibble b 1)) =
-    get_or_read items _ _ (omega (arith, second, p.pairs_length)) c.index-high.ensures 0
-    ∙ ap (λ e. slice_index items (32 * d + e)) c.place_of-2.ensures.value
-    ∙ p.pairs_each d (16 * 1 + nibble b 1) c.requires.place (omega (arith, nibble-lt b 1)) in
-    let table = rw c.self.view_is at c.lawful.ensures.table in
-    rw (c.union.ensures, low, high) (composition-halves_r m p.few b c.requires.within (set_at m d) table)
+    let byte : b < 256 = full-lt m b 8 c.requires.within p.few in
+    let read : c.index.result.now ≡ slice_index items (256 * d + c.word.result) =
+    get_or_read items _ _ (rw c.word.ensures (omega (arith, c.requires.place, byte, p.pairs_length))) c.index.ensures 0 in
+    c.of.ensures ∙ c.from.ensures ∙ read ∙ ap (λ y. slice_index items (256 * d + y)) c.word.ensures
+    ∙ p.pairs_each d b c.requires.place byte ∙ ap (composition m (set_at m d)) (meet-within _ _ c.requires.within)

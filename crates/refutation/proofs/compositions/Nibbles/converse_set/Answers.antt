@@ -1,12 +1,16 @@
-use Rattle.std.proofs.Common.{◌≡◌, ◌+◌, ◌*◌, ap, ◌∙◌, arith}
+use Rattle.std.proofs.Common.{◌≡◌, ◌<◌, ap, ◌∙◌, arith}
 use Rattle.std.specs.Prelude.{slice_index}
 use Rattle.std.proofs.lemmas.List.{get_or_read}
 use Rattle.calculus_table.specs.Composition.{converse}
-use Rattle.compose_fast.specs.Nibbles.{nibble}
-use Rattle.compose_fast.proofs.Parts.{nibble-lt}
-use Rattle.refutation.specs.Compositions.{set_at}
-use Rattle.refutation.proofs.Halves.{converse-halves}
+use Rattle.calculus_table.proofs.Sets.{meet-within}
+use Rattle.compose_fast.proofs.Parts.{full-lt}
 use Rattle.refutation.proofs.compositions.Nibbles.converse_set.Goals as goal
+
+pub index-requires : goal.index-requires
+index-requires c =
+    let p = rw c.self.view_is at c.self.invariant in
+    let byte : c.args.a < 256 = full-lt c.args.self.now c.args.a 8 c.requires p.few in
+    rw c.word.ensures (omega (arith, byte, p.converses_length))
 
 pub returns-clause-value : goal.returns-clause-value
 returns-clause-value c =
@@ -14,10 +18,8 @@ returns-clause-value c =
     let a = c.args.a in
     let p = rw c.self.view_is at c.self.invariant in
     let items = c.self.inside.converses.items in
-    let low : c.index-low.result.now ≡ converse m (set_at m (16 * 0 + nibble a 0)) =
-    get_or_read items _ _ (omega (arith, c.place_of.ensures.below, p.converses_length)) c.index-low.ensures 0
-    ∙ ap (slice_index items) c.place_of.ensures.value ∙ p.converses_each (16 * 0 + nibble a 0) (omega (arith, nibble-lt a 0)) in
-    let high : c.index-high.result.now ≡ converse m (set_at m (16 * 1 + nibble a 1)) =
-    get_or_read items _ _ (omega (arith, c.place_of-2.ensures.below, p.converses_length)) c.index-high.ensures 0
-    ∙ ap (slice_index items) c.place_of-2.ensures.value ∙ p.converses_each (16 * 1 + nibble a 1) (omega (arith, nibble-lt a 1)) in
-    rw (c.union.ensures, low, high) (converse-halves m p.few a c.requires)
+    let byte : a < 256 = full-lt m a 8 c.requires p.few in
+    let read : c.index.result.now ≡ slice_index items c.word.result =
+    get_or_read items _ _ (rw c.word.ensures (omega (arith, byte, p.converses_length))) c.index.ensures 0 in
+    c.of.ensures ∙ c.from.ensures ∙ read ∙ ap (slice_index items) c.word.ensures
+    ∙ p.converses_each a byte ∙ ap (converse m) (meet-within _ _ c.requires)
