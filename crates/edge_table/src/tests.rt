@@ -11,6 +11,7 @@ use calculus_table::{Calculus, Compose, Memory, Rel};
 use closure_seq::close;
 use network_words::{Fact, Net};
 use std::alloc::Global;
+use std::process::Abort;
 use std::test::Fail;
 use std::thread::{Threads, join};
 
@@ -60,13 +61,32 @@ fn narrow_all(table: &OpenNet, pass: &mut Pass, c: &Calculus)
     ensures pass { IsPassOf table.now pass.new }
     ensures weight { pass.new.actor.weight ≡ pass.old.actor.weight }
 {
-    let nodes = table.nodes();
-    for i in 0..nodes {
-        for j in 0..nodes {
-            for k in 0..nodes {
-                narrow(table, pass, c, i, j, k);
-            }
-        }
+    for i in 0..table.nodes() {
+        narrow_all_from(table, pass, c, i);
+    }
+}
+
+/// Narrows every triple that begins with this node.
+fn narrow_all_from(table: &OpenNet, pass: &mut Pass, c: &Calculus, i: u32)
+    requires pass { IsPassOf table.now pass.old }
+    requires calculus { c.now.algebra ≡ algebra_of table.now.opening }
+    ensures pass { IsPassOf table.now pass.new }
+    ensures weight { pass.new.actor.weight ≡ pass.old.actor.weight }
+{
+    for j in 0..table.nodes() {
+        narrow_all_along(table, pass, c, i, j);
+    }
+}
+
+/// Narrows every triple that begins with these two nodes.
+fn narrow_all_along(table: &OpenNet, pass: &mut Pass, c: &Calculus, i: u32, j: u32)
+    requires pass { IsPassOf table.now pass.old }
+    requires calculus { c.now.algebra ≡ algebra_of table.now.opening }
+    ensures pass { IsPassOf table.now pass.new }
+    ensures weight { pass.new.actor.weight ≡ pass.old.actor.weight }
+{
+    for k in 0..table.nodes() {
+        narrow(table, pass, c, i, j, k);
     }
 }
 
@@ -107,6 +127,26 @@ fn cut(table: &OpenNet, pass: Pass, left: u32) -> Option<(Pass, Pass)>
         return None;
     }
     Some(table.split(pass, left))
+}
+
+/// A table over a network of which nothing is known, whose pass is cut in two.
+fn opened_for_two(
+    alloc: Global,
+    c: &Calculus,
+    nodes: u32,
+    weight: u32,
+    left: u32,
+) -> Option<(OpenNet, (Pass, Pass))>
+    requires some { 0 < weight }
+    requires bounded { weight ≤ MAX_WEIGHT }
+    ensures weight { IfSome result (λ t. t.0.opening.weight ≡ weight) }
+    ensures calculus { IfSome result (λ t. c.now.algebra ≡ algebra_of t.0.opening) }
+    ensures first { IfSome result (λ t. IsPassOf t.0 t.1.0) }
+    ensures second { IfSome result (λ t. IsPassOf t.0 t.1.1) }
+{
+    let (table, pass) = opened(alloc, c, nodes, weight).ok()?;
+    let passes = cut(&table, pass, left)?;
+    Some((table, passes))
 }
 
 /// The words that the table is closed with, if the pass has this weight, which is the whole.
@@ -154,8 +194,7 @@ fn narrowed_after_two<R: Threads + Sync>(
     c: &Calculus,
     snap: &mut Snapshot,
 ) -> Option<((bool, bool, u64), Net)> {
-    let (table, pass) = opened(alloc, c, 3, 2).ok()?;
-    let passes = cut(&table, pass, 1)?;
+    let (table, passes) = opened_for_two(alloc, c, 3, 2, 1)?;
     let (first, second) = in_two_threads(rt, &table, c, passes);
     let mut pass = table.join(first, second);
     let found = narrow_twice(&table, &mut pass, c, snap)?;
@@ -213,8 +252,7 @@ fn stated(table: &OpenNet, mut pass: Pass, c: &Calculus, fact: Fact) -> Pass
 /// What a second pass peeks and a third one refreshes, after the first has stated a fact, and whether the third then
 /// sees less: after one more fact, and after none.
 fn seen_by_others(alloc: Global, c: &Calculus, snap: &mut Snapshot) -> Option<(u64, bool, bool)> {
-    let (table, pass) = opened(alloc, c, 3, 3).ok()?;
-    let (first, second) = cut(&table, pass, 1)?;
+    let (table, (first, second)) = opened_for_two(alloc, c, 3, 3, 1)?;
     let (first, third) = cut(&table, first, 1)?;
     state_and_look(&table, c, first, second, third, snap)
 }
@@ -257,8 +295,7 @@ fn passes_see_what_others_state(rt: HostRuntime) -> Result<(), Fail> {
 
 /// A table of one node, whose pass is cut in two and joined again.
 fn cut_and_joined(alloc: Global, c: &Calculus) -> Option<Net> {
-    let (table, pass) = opened(alloc, c, 1, 2).ok()?;
-    let (first, second) = cut(&table, pass, 1)?;
+    let (table, (first, second)) = opened_for_two(alloc, c, 1, 2, 1)?;
     let pass = table.join(first, second);
     closed(alloc, table, pass, 2)
 }
@@ -287,7 +324,6 @@ fn by_two<R: Threads + Sync>(
     c: &Calculus,
     passes: (Pass, Pass),
     facts: &[Fact],
-    others: &[Fact],
 ) -> Pass
     requires first { IsPassOf table.now passes.0 }
     requires second { IsPassOf table.now passes.1 }
@@ -295,6 +331,7 @@ fn by_two<R: Threads + Sync>(
     ensures { IsPassOf table.now result }
 {
     let (first, second) = passes;
+    let (facts, others) = facts.split_at(facts.len() / 2);
     let (first, second) = join(
         rt,
         move || -> Pass
@@ -324,8 +361,6 @@ fn by_four<R: Threads + Sync>(
     ensures { IsPassOf table.now result }
 {
     let (front, back) = facts.split_at(facts.len() / 2);
-    let (a, b) = front.split_at(front.len() / 2);
-    let (d, e) = back.split_at(back.len() / 2);
     let (first, second) = join(
         rt,
         move || -> Pass
@@ -333,13 +368,13 @@ fn by_four<R: Threads + Sync>(
                 × IsPassOf table.now first.1
                 × (c.now.algebra ≡ algebra_of table.now.opening) }
             ensures { IsPassOf table.entry.now result }
-        { by_two(rt, table, c, first, a, b) },
+        { by_two(rt, table, c, first, front) },
         move || -> Pass
             requires { IsPassOf table.now second.0
                 × IsPassOf table.now second.1
                 × (c.now.algebra ≡ algebra_of table.now.opening) }
             ensures { IsPassOf table.entry.now result }
-        { by_two(rt, table, c, second, d, e) },
+        { by_two(rt, table, c, second, back) },
     );
     table.join(first, second)
 }
@@ -353,8 +388,7 @@ fn narrowed_by_threads<R: Threads + Sync>(
 ) -> Option<Net>
     ensures { IfSome result (λ net. IsNetwork c.now.algebra net.nodes net.words) }
 {
-    let (table, pass) = opened(alloc, c, 5, 4).ok()?;
-    let (first, second) = cut(&table, pass, 2)?;
+    let (table, (first, second)) = opened_for_two(alloc, c, 5, 4, 2)?;
     let first = cut(&table, first, 1)?;
     let second = cut(&table, second, 1)?;
     let pass = by_four(rt, &table, c, first, second, facts);
@@ -397,24 +431,40 @@ fn are_of_the_calculus(c: &Calculus, facts: &[Fact]) -> bool
     true
 }
 
-#[test]
-fn threads_that_narrow_at_once_lose_nothing(rt: HostRuntime) -> Result<(), Fail> {
-    let c = rcc8(rt.alloc())?;
-    let facts = [
+/// Facts of five nodes.
+fn six_facts() -> [Fact; 6] {
+    [
         fact(0, 1, TPP),
         fact(2, 1, 1 << 6),
         fact(2, 3, NTPP | TPP | 4),
         fact(3, 4, 2),
         fact(4, 0, 255 - 4),
         fact(1, 3, TPP | NTPP),
-    ];
-    assert!(rt; are_of_the_calculus(&c, &facts));
-    let expected = closed_at_once(rt.alloc(), &c, &facts)?;
+    ]
+}
+
+/// Closes the facts by threads in each round, and fails unless the sets are always these.
+fn assert_rounds<R: Threads + Sync + Abort>(
+    rt: &R,
+    alloc: Global,
+    c: &Calculus,
+    facts: &[Fact],
+    expected: &[u64],
+) -> Result<(), Fail> {
     for round in 0..200 {
-        let net = closed_by_threads(&rt, rt.alloc(), &c, &facts)?;
-        assert_eq!(rt; net.words(), expected.words(), "in round {round}");
+        let net = closed_by_threads(rt, alloc, c, facts)?;
+        assert_eq!(rt; net.words(), expected, "in round {round}");
     }
     Ok(())
+}
+
+#[test]
+fn threads_that_narrow_at_once_lose_nothing(rt: HostRuntime) -> Result<(), Fail> {
+    let c = rcc8(rt.alloc())?;
+    let facts = six_facts();
+    assert!(rt; are_of_the_calculus(&c, &facts));
+    let expected = closed_at_once(rt.alloc(), &c, &facts)?;
+    assert_rounds(&rt, rt.alloc(), &c, &facts, expected.words())
 }
 
 fn is_sent<T: Send>() {}

@@ -4,9 +4,3 @@ use Rattle.edge_table.proofs.tests.narrow_all.Given as goal
 
 abbrev pub invariant-loop-i : goal.invariant-loop-i
 invariant-loop-i l = record { pass : IsPassOf l.table l.pass; weight : l.pass.actor.weight ≡ l.fn.pass.actor.weight }
-
-abbrev pub invariant-loop-j : goal.invariant-loop-j
-invariant-loop-j l = record { pass : IsPassOf l.table l.pass; weight : l.pass.actor.weight ≡ l.fn.pass.actor.weight }
-
-abbrev pub invariant-loop-k : goal.invariant-loop-k
-invariant-loop-k l = record { pass : IsPassOf l.table l.pass; weight : l.pass.actor.weight ≡ l.fn.pass.actor.weight }
