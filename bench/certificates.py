@@ -6,8 +6,9 @@ Usage: bench/certificates.py [--program PATH]      (default: the built program)
 It makes random networks of regions that have no scenario, has `solve` write their certificates and `trace` the traced ones,
 and times `solve`, `check` of both, and the same checks by the plain program, bench/plain_check.cpp, which closes and composes
 by tables over pairs of sets. They run in turn; the time of a run on a network of one node is taken off as the cost of the start.
-A small program over the library, which this writes, proves and builds in a folder for temporary files, tells how long reading
-the JSON alone, reading the certificate and writing it take. Prints for each size the sums of the median times in milliseconds,
+Small programs over the library, which this writes, proves and builds in a folder for temporary files, tell how long reading
+the JSON alone, reading the certificate and writing it take, and how long the checks of the tree and of its traced tree take alone,
+in turn. Prints for each size the sums of the median times in milliseconds,
 the ratios, and what part of the check is reading the JSON alone; and then, for one network, the times of trees that are twice as long each time, since
 each hangs the one before it under a split twice.
 """
@@ -22,7 +23,8 @@ BUDGET = "10000"
 LIMIT = 16.7
 SIZES = [(20, 4), (30, 4), (40, 2)]
 DEPENDS = (
-    "cert_file refutation scenario closure_seq compose_fast line_files qsr_lex network_words calculus_table calculus_builtin serde_json"
+    "cert_file refutation scenario closure_seq compose_fast network_file named_sets line_files qsr_lex network_words calculus_table "
+    "calculus_builtin serde_json"
 )
 
 PARTS = """//! Reads a certificate as JSON and as a certificate, and writes it again.
@@ -87,11 +89,120 @@ fn main(rt: HostRuntime) -> io::Result<()> {
 """
 
 
+CHECKS = """//! Checks the tree of a certificate and its traced tree in turn. Standard input has the network and then the certificate.
+//! Writes for each turn the nanoseconds of both checks, and at last the number of steps.
+#![tactic(auto)]
+
+use calculus_builtin::rcc8;
+use calculus_table::Calculus;
+use network_words::Net;
+use refutation::{Steps, Tree, check, trace};
+use std::io;
+use std::io::Read;
+use std::time::{Clock, Instant};
+
+ghost use Rattle.std.specs.Prelude.{◌<◌, ◌^◌, All, length};
+ghost use Rattle.network_words.specs.Network.{IsNetwork};
+ghost use Rattle.refutation.specs.Tree.{AreFewSteps};
+
+/// Where the certificate begins: after the network's end line.
+fn end_of_network(bytes: &[u8]) -> usize {
+    for at in 0..bytes.len() {
+        if bytes[at..].starts_with(b"\\n.\\n") {
+            return at.saturating_add(3);
+        }
+    }
+    0
+}
+
+/// The nanoseconds of a check.
+fn timed(rt: &(impl Clock + AllocGlobal), net: &Net, c: &Calculus, tree: &Tree) -> io::Result<u128>
+    requires network { IsNetwork c.now.algebra net.now.nodes net.now.words }
+    requires few { length tree.now < 2 ^ 32 }
+    requires steps { All (λ node. AreFewSteps node.steps) tree.now }
+{
+    let start = Instant::now(rt)?;
+    let is_right = check(rt.alloc(), net, c, tree).is_ok();
+    let time = start.elapsed(rt)?.as_nanos();
+    if is_right { Ok(time) } else { Ok(0) }
+}
+
+/// Checks both trees so many times in turn.
+fn print_turns(
+    rt: &HostRuntime,
+    net: &Net,
+    c: &Calculus,
+    tree: &Tree,
+    traced: &Tree,
+    turns: u32,
+) -> io::Result<()>
+    requires network { IsNetwork c.now.algebra net.now.nodes net.now.words }
+    requires few { length tree.now < 2 ^ 32 }
+    requires steps { All (λ node. AreFewSteps node.steps) tree.now }
+    requires traced_few { length traced.now < 2 ^ 32 }
+    requires traced_steps { All (λ node. AreFewSteps node.steps) traced.now }
+{
+    for _ in 0..turns {
+        let untraced = timed(rt, net, c, tree)?;
+        let traced = timed(rt, net, c, traced)?;
+        println!(rt; "{untraced} {traced}")?;
+    }
+    Ok(())
+}
+
+/// Prints the number of steps.
+fn print_steps(rt: &HostRuntime, tree: &Tree) -> io::Result<()> {
+    let mut steps = 0usize;
+    for node in &tree.nodes {
+        if let Steps::List(list) = &node.steps {
+            steps = steps.saturating_add(list.len());
+        }
+    }
+    println!(rt; "{steps}")
+}
+
+/// Traces the tree and checks both.
+fn print_checks(rt: &HostRuntime, net: &Net, c: &Calculus, tree: &Tree) -> io::Result<()>
+    requires network { IsNetwork c.now.algebra net.now.nodes net.now.words }
+    requires few { length tree.now < 2 ^ 32 }
+    requires steps { All (λ node. AreFewSteps node.steps) tree.now }
+{
+    let Ok(traced) = trace(rt.alloc(), net, c, tree) else {
+        return Ok(());
+    };
+    if traced.nodes.len() > 1_000_000 {
+        return Ok(());
+    }
+    print_turns(rt, net, c, tree, &traced, 11)?;
+    print_steps(rt, &traced)
+}
+
+fn main(rt: HostRuntime) -> io::Result<()> {
+    let mut bytes = Vec::new(rt.alloc());
+    rt.stdin().read_to_end(&mut bytes)?;
+    if bytes.len() > 16_777_216 {
+        return Ok(());
+    }
+    let Ok(c) = rcc8(rt.alloc()) else {
+        return Ok(());
+    };
+    let at = end_of_network(&bytes).min(bytes.len());
+    let Ok(net) = network_file::read(rt.alloc(), &bytes[..at], &c) else {
+        return Ok(());
+    };
+    let Ok(certificate) = cert_file::read(rt.alloc(), &bytes[at..]) else {
+        return Ok(());
+    };
+    print_checks(&rt, &net, &c, &certificate.tree)
+}
+"""
+
+
 class Files:
     """The files of one network, and the commands over them."""
 
-    def __init__(self, folder, program, plain, parts):
-        self.folder, self.program, self.plain, self.parts = folder, program, plain, parts
+    def __init__(self, folder, program, plain, parts, checks):
+        self.folder, self.program, self.plain, self.parts, self.checks = folder, program, plain, parts, checks
         self.start = self.write("start", "nodes 1\n.\n")
         self.start_certificate = self.written(["solve", "rcc8", "--cert"], self.start, "start.cert")
 
@@ -132,6 +243,15 @@ class Files:
 
     def plainly(self, network, certificate):
         return self.beyond_start([self.plain, certificate], network, [self.plain, self.start_certificate])
+
+    def checks_alone(self, network, certificate):
+        """The milliseconds of the checks of its tree and of its traced tree, in turn, and the number of steps."""
+        with open(network) as first, open(certificate) as second:
+            both = first.read() + second.read()
+        out = subprocess.run([self.checks], input=both.encode(), capture_output=True, check=True).stdout.decode().split("\n")
+        *turns, steps = [[int(word) for word in line.split()] for line in out if line]
+        untraced, traced = (statistics.median(column) / 1e6 for column in zip(*turns))
+        return untraced, traced, steps[0]
 
     def json_parts(self, certificate):
         """The milliseconds of reading the JSON, of reading the certificate and of writing it."""
@@ -187,7 +307,8 @@ def main():
         plain = os.path.join(folder, "plain_check")
         subprocess.run(["g++", "-O2", "-o", plain, os.path.join(TOP, "bench/plain_check.cpp")], check=True)
         parts = build_program(os.path.join(folder, "parts"), "certificate_parts", DEPENDS, {"src/main.rt": PARTS})
-        files = Files(folder, program, plain, parts)
+        checks = build_program(os.path.join(folder, "checks"), "certificate_checks", DEPENDS, {"src/main.rt": CHECKS})
+        files = Files(folder, program, plain, parts, checks)
         for nodes, count in SIZES:
             found = refuted(files, nodes, count)
             tell_size(files, nodes, found)
@@ -200,17 +321,16 @@ def tell_size(files, nodes, found):
     trace = sum(files.tracing(network, certificate) for network, certificate, _, _ in found)
     many = sum(count for _, _, _, count in found)
     print(f"{nodes} regions, {len(found)} networks, {many} nodes of trees: solve {solve:.1f} ms, trace {trace:.1f} ms")
-    untraced = 0
+    alone, traced, steps = (sum(column) for column in zip(*(files.checks_alone(row[0], row[1]) for row in found)))
+    print(f"  the check of the tree alone {alone:.2f} ms, of the traced one, {steps} steps, {traced:.2f} ms: {traced / alone:.2f}")
     for kind, place in (("untraced", 1), ("traced", 2)):
         check = sum(files.checking(row[0], row[place]) for row in found)
         other = sum(files.plainly(row[0], row[place]) for row in found)
         reading, whole, writing = (sum(column) for column in zip(*(files.json_parts(row[place]) for row in found)))
-        alone = max(check - whole, 0.001)
-        untraced = untraced or alone
         print(
             f"  {kind:8} {sum(size_of(row[place]) for row in found):6.2f} MB  check {check:8.1f} ms  plain {other:8.1f} ms  "
             f"ratio {check / other:5.2f}  to solve {check / solve:5.2f}  JSON read {reading:7.1f} ms, {reading / check:4.0%} of the check, "
-            f"as a certificate {whole:7.1f} ms, written {writing:7.1f} ms  the tree alone {alone:7.1f} ms, of the untraced {alone / untraced:4.2f}",
+            f"as a certificate {whole:7.1f} ms, written {writing:7.1f} ms",
             flush=True,
         )
 

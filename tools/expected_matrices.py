@@ -1,7 +1,7 @@
 #!/usr/bin/env python3
 """Computes the DE-9IM matrices that the tests of the crate de9im expect, by exact fractions.
 
-Usage: tools/expected_matrices.py          prints the rows of crates/de9im/src/tests.rt
+Usage: tools/expected_matrices.py          prints the rows of crates/tests_of_polygons/src/matrices.rt
 
 The way is another than the crate's. The plane is cut at the heights of all vertices and all crossings; between two such
 heights the edges don't cross, so that a point in each gap between neighbouring edges speaks for the areas. Each edge is

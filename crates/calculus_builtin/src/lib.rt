@@ -13,6 +13,3 @@ mod regions;
 pub use intervals::allen;
 pub use points::point;
 pub use regions::rcc8;
-
-#[cfg(test)]
-mod tests;

@@ -22,8 +22,6 @@ mod laws;
 mod names;
 mod reading;
 mod statement;
-#[cfg(test)]
-mod tests;
 mod writing;
 
 pub use fault::LoadFault;

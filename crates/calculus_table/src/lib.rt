@@ -30,6 +30,3 @@ pub const MAX_BASES: u32 = 64;
 /// Out of memory.
 #[derive(Clone, Copy, Debug, PartialEq, Eq)]
 pub struct Memory;
-
-#[cfg(test)]
-mod tests;

@@ -31,8 +31,6 @@ mod json_values;
 mod laws;
 mod nodes;
 mod reading;
-#[cfg(test)]
-mod tests;
 mod writing;
 
 pub use claim::{Cert, Claim};

@@ -34,6 +34,3 @@ pub use levels::Change;
 pub use pairs::Note;
 pub use path::ClosedPath;
 pub use work::Work;
-
-#[cfg(test)]
-mod tests;

@@ -9,8 +9,6 @@ mod copies;
 mod pieces;
 mod rounds;
 mod slices;
-#[cfg(test)]
-mod tests;
 
 pub use pieces::{is_shared, slice_end};
 pub use rounds::{close_held, close_parallel};

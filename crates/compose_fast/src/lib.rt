@@ -24,6 +24,3 @@ pub use kernels::{first_difference, first_zero, or_rows};
 pub use members::without;
 pub use room::{clear_to, filled, with_room};
 pub use tables::{Tables, put_set};
-
-#[cfg(test)]
-mod tests;

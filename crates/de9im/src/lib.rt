@@ -11,8 +11,6 @@ mod matrices;
 mod patterns;
 mod relations;
 mod scans;
-#[cfg(test)]
-mod tests;
 
 pub use laws::{laws_of_patterns, rings_have_one_matrix};
 pub use matrices::{Dim, Matrix};

@@ -6,8 +6,6 @@ mod pass;
 mod plays;
 mod rule;
 mod snapshot;
-#[cfg(test)]
-mod tests;
 mod words;
 
 pub use open_net::{OpenNet, open};

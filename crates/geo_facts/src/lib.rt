@@ -19,8 +19,6 @@ mod polygon;
 mod reading;
 mod relating;
 mod stating;
-#[cfg(test)]
-mod tests;
 
 pub use demo::demo_net;
 pub use fault::{FactFault, GeoFault};

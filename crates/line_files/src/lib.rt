@@ -10,8 +10,6 @@
 mod laws;
 mod lines;
 mod names;
-#[cfg(test)]
-mod tests;
 
 pub use laws::{file_text_is_of_readable_lines, printed_lines_are_read};
 pub use lines::{FileLines, TextEnd, TextLine};

@@ -11,8 +11,6 @@
 mod base_names;
 mod laws;
 mod reading;
-#[cfg(test)]
-mod tests;
 mod writing;
 
 pub use base_names::BaseNames;

@@ -17,8 +17,6 @@ mod event;
 mod laws;
 mod lists;
 mod machine;
-#[cfg(test)]
-mod tests;
 
 pub use actor::Actor;
 pub use event::Event;

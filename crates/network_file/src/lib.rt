@@ -19,8 +19,6 @@ mod fault;
 mod forms;
 mod laws;
 mod reading;
-#[cfg(test)]
-mod tests;
 mod writing;
 
 pub use fault::FileFault;

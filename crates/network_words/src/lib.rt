@@ -16,8 +16,6 @@ mod fact;
 mod laws;
 mod names;
 mod net;
-#[cfg(test)]
-mod tests;
 
 pub use between::{edge_between, oriented, relation_between};
 pub use fact::Fact;

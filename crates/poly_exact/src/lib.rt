@@ -17,8 +17,6 @@ mod locations;
 mod points;
 mod rects;
 mod rings;
-#[cfg(test)]
-mod tests;
 
 pub use edges::{Meeting, are_apart, meet, reach_at, turn_at};
 pub use laws::laws_of_rings;

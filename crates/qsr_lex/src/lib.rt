@@ -19,8 +19,6 @@ mod numbers;
 mod plain;
 mod reading;
 mod scan;
-#[cfg(test)]
-mod tests;
 mod tokens;
 
 pub use laws::{

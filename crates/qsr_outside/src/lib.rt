@@ -14,8 +14,6 @@ mod gates;
 mod map_shelf;
 mod reading;
 mod shelves;
-#[cfg(test)]
-mod tests;
 mod writing;
 
 pub use bytes_sink::BytesSink;

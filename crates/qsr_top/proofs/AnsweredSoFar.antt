@@ -16,11 +16,11 @@ use Rattle.session_run.specs.Batches.{BatchState, IsBatch}
 use Rattle.session_run.specs.Replies.{IsAnswered, AreAnswered}
 use Rattle.session_run.specs.Readers.{ReaderState, new_reader, given_to, ReadsNext}
 use Rattle.session_run.specs.declared.TheConstants.{PIECE}
+use Rattle.qsr_inputs.specs.declared.statuses.Status.{Status}
+use Rattle.qsr_inputs.specs.declared.statuses.Status.TheVariants.{Done, ReadFault, WriteFault, Memory, TooLong}
+use Rattle.qsr_inputs.proofs.Naming.{IfSome-weaker}
 use Rattle.qsr_top.specs.Ends.{end_of_stop}
 use Rattle.qsr_top.specs.Serving.{first_store, Serves, end_of_serving}
-use Rattle.qsr_top.specs.declared.statuses.Status.{Status}
-use Rattle.qsr_top.specs.declared.statuses.Status.TheVariants.{Done, ReadFault, WriteFault, Memory, TooLong}
-use Rattle.qsr_top.proofs.Naming.{IfSome-weaker}
 use Rattle.qsr_top.proofs.ScriptsSoFar.{SoFar, answers_more, no_batch_yet, so_far_next, served_whole, given_so_far, served_long, first_written, part_written}
 
 -- ---- counts

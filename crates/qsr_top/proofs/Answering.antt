@@ -12,23 +12,24 @@ use Rattle.qsr_outside.specs.Writing.{AppendsPart}
 use Rattle.qsr_outside.specs.declared.reading.ReadStop.{ReadStop}
 use Rattle.qsr_outside.specs.declared.reading.ReadStop.TheVariants as read
 use Rattle.qsr_words.specs.Asked.{Asked, close, solve, check, trace, relate, serve, demo}
-use Rattle.qsr_top.specs.Stops.{IsTooLongStop}
+use Rattle.qsr_inputs.specs.Stops.{IsTooLongStop}
+use Rattle.qsr_inputs.specs.Told.{WhereTold, SourceWaits, told_documents, told_source, is_served}
+use Rattle.qsr_inputs.specs.declared.stops.Stop.{Stop}
+use Rattle.qsr_inputs.specs.declared.stops.Stop.TheVariants as stop
+use Rattle.qsr_inputs.specs.declared.statuses.Place.{Place}
+use Rattle.qsr_inputs.specs.declared.statuses.Status.{Status}
+use Rattle.qsr_inputs.specs.declared.statuses.Status.TheVariants.{Done, No, Usage, Refused, ReadFault, WriteFault, Memory, Budget, NotAccepted, TooLong}
+use Rattle.qsr_inputs.proofs.Naming.{IfSome-weaker, told_all}
+use Rattle.qsr_answers.specs.Texts.{usage_text}
+use Rattle.qsr_answers.specs.Commands.{IsAnswered}
+use Rattle.qsr_answers.specs.declared.answers.Answer.{Answer}
 use Rattle.qsr_top.specs.Output.{Output}
-use Rattle.qsr_top.specs.Texts.{usage_text}
-use Rattle.qsr_top.specs.Told.{WhereTold, SourceWaits, told_documents, told_source, is_served}
-use Rattle.qsr_top.specs.Ends.{MayEnd, IsAnswered, IsUsageEnd, IsLongEnd, end_of_stop}
+use Rattle.qsr_top.specs.Ends.{MayEnd, IsUsageEnd, IsLongEnd, end_of_stop}
 use Rattle.qsr_top.specs.SinkAfter.{LeavesInSink, LeavesByStatus, LeavesAtReadFault, LeavesAtWriteFault, LeavesOutOfMemory, WritesPart, IsWritten, IsTextOf}
 use Rattle.qsr_top.specs.Answers.{Answers, AnswersWords, OutputOfStop}
 use Rattle.qsr_top.specs.Spoken.{IsSpoken, IsWriting, Tells}
 use Rattle.qsr_top.specs.Runs.{Runs}
-use Rattle.qsr_top.specs.declared.answers.Answer.{Answer}
-use Rattle.qsr_top.specs.declared.stops.Stop.{Stop}
-use Rattle.qsr_top.specs.declared.stops.Stop.TheVariants as stop
-use Rattle.qsr_top.specs.declared.statuses.Place.{Place}
-use Rattle.qsr_top.specs.declared.statuses.Status.{Status}
-use Rattle.qsr_top.specs.declared.statuses.Status.TheVariants.{Done, No, Usage, Refused, ReadFault, WriteFault, Memory, Budget, NotAccepted, TooLong}
-use Rattle.qsr_top.proofs.Naming.{IfSome-weaker, told_all}
-use Rattle.qsr_top.proofs.Commands.{waits_same, memory_may_end}
+use Rattle.qsr_top.proofs.CommandAnswers.{waits_same, memory_may_end}
 
 -- ---- what is told
 

@@ -13,9 +13,9 @@ use Rattle.session_run.specs.Batches.{BatchState}
 use Rattle.session_run.specs.Replies.{IsAnswered, AreAnswered}
 use Rattle.session_run.specs.Readers.{ReaderState, EndsAtCommit, EndsAtEnd, CutsBatch, HasNoBatch}
 use Rattle.session_run.specs.declared.TheConstants.{PIECE}
+use Rattle.qsr_inputs.specs.declared.statuses.Status.TheVariants.{Done, TooLong}
+use Rattle.qsr_inputs.proofs.Naming.{none_first, none_second}
 use Rattle.qsr_top.specs.Serving.{first_store, batches_in, committed_in, WritesServed, WritesGiven, WritesFirst, WritesPartOfBatch}
-use Rattle.qsr_top.specs.declared.statuses.Status.TheVariants.{Done, TooLong}
-use Rattle.qsr_top.proofs.Naming.{none_first, none_second}
 
 -- ---- texts of batches
 

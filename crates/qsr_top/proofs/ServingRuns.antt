@@ -6,23 +6,24 @@ use Rattle.std.proofs.lemmas.Bool.{false≢true}
 use Rattle.calculus_table.specs.Calculus.{NamedAlgebra}
 use Rattle.qsr_outside.specs.Documents.{Documents}
 use Rattle.qsr_words.specs.Asked.{ServeAsked, serve}
-use Rattle.qsr_top.specs.Inputs.{CalculusOf}
+use Rattle.qsr_inputs.specs.Inputs.{CalculusOf}
+use Rattle.qsr_inputs.specs.Told.{named_by_calculus, told_documents}
+use Rattle.qsr_inputs.specs.Readings.{Fetches}
+use Rattle.qsr_inputs.specs.declared.stops.Stop.{Stop}
+use Rattle.qsr_inputs.specs.declared.statuses.Status.{Status}
+use Rattle.qsr_inputs.specs.declared.statuses.Status.TheVariants.{Done, ReadFault, WriteFault, Memory, TooLong}
+use Rattle.qsr_inputs.proofs.Parts.{value_or_cause}
+use Rattle.qsr_inputs.proofs.Naming.{IfSome-weaker, told_all, named-told}
+use Rattle.qsr_inputs.proofs.Fetching.{not_failed}
+use Rattle.qsr_inputs.proofs.InputsOnce.{DocumentsGive-one}
+use Rattle.qsr_answers.specs.Commands.{IsAnswered}
 use Rattle.qsr_top.specs.Output.{Works}
 use Rattle.qsr_top.specs.Serving.{ServesScript, Serves, IsServing, WritesByStatus}
-use Rattle.qsr_top.specs.Told.{named_by_calculus, told_documents}
-use Rattle.qsr_top.specs.Ends.{MayEnd, IsAnswered}
+use Rattle.qsr_top.specs.Ends.{MayEnd}
 use Rattle.qsr_top.specs.SinkAfter.{LeavesInSink, LeavesByStatus, LeavesAtReadFault}
 use Rattle.qsr_top.specs.Spoken.{Tells}
-use Rattle.qsr_top.specs.Answers.{Fetches}
 use Rattle.qsr_top.specs.Runs.{Runs}
-use Rattle.qsr_top.specs.declared.stops.Stop.{Stop}
-use Rattle.qsr_top.specs.declared.statuses.Status.{Status}
-use Rattle.qsr_top.specs.declared.statuses.Status.TheVariants.{Done, ReadFault, WriteFault, Memory, TooLong}
-use Rattle.qsr_top.proofs.Parts.{value_or_cause}
-use Rattle.qsr_top.proofs.Naming.{IfSome-weaker, told_all, named-told}
-use Rattle.qsr_top.proofs.Fetching.{not_failed}
-use Rattle.qsr_top.proofs.InputsOnce.{DocumentsGive-one}
-use Rattle.qsr_top.proofs.Commands.{given_stopped}
+use Rattle.qsr_top.proofs.CommandAnswers.{given_stopped}
 use Rattle.qsr_top.proofs.Answering.{words_run, spoken}
 
 -- ---- what is left in the sink

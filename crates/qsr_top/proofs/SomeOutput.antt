@@ -1,91 +1,21 @@
 -- One text and one status at least are permitted for what words ask for, where the documents that they name are there, and no
 -- polygons are asked for.
-use Rattle.std.proofs.Common.{ℕ, suc, List, [], ◌∷◌, None, Some, Ok, Err, ◌⊎◌, inl, inr, refl, arith}
-use Rattle.std.specs.Prelude.{Contains}
-use Rattle.std.proofs.lemmas.Bool.{cases_eq}
-use Rattle.std.proofs.lemmas.Map.Made.{Contains-tail}
-use Rattle.calculus_table.specs.Calculus.{NamedAlgebra, IsNamedCalculus}
+use Rattle.std.proofs.Common.{ℕ, List, [], None, Some, Ok, Err, refl}
 use Rattle.network_words.specs.Network.{Network}
-use Rattle.network_words.proofs.Existence.{closure_of}
-use Rattle.network_file.specs.NetworkText.{network_text}
-use Rattle.split_search.specs.declared.verdict.Verdict.{Verdict}
-use Rattle.split_search.specs.declared.verdict.Verdict.TheVariants as verdict
-use Rattle.split_search.proofs.SomeVerdict.{verdict_exists}
 use Rattle.qsr_outside.specs.Documents.{Documents}
-use Rattle.qsr_words.specs.Asked.{Asked, SolveAsked, close, solve, check, trace, relate, serve, demo}
-use Rattle.qsr_top.specs.Stops.{Cause, refuses, is_long}
-use Rattle.qsr_top.specs.Parts.{Then}
-use Rattle.qsr_top.specs.Texts.{usage_text, refusal_text}
-use Rattle.qsr_top.specs.Inputs.{Guided, Searched, Claimed}
-use Rattle.qsr_top.specs.Verdicts.{answer_text, verdict_status}
-use Rattle.qsr_top.specs.Output.{ClosesNetwork, SolvesNetwork, GivenTo, ReadBy, DocumentsGive, SourceGives, Makes, Input, IsInput, InputOf}
-use Rattle.qsr_top.specs.Ends.{IsAnswered}
+use Rattle.qsr_words.specs.Asked.{Asked, close, solve, check, trace, relate, serve, demo}
+use Rattle.qsr_inputs.specs.Stops.{Cause, refuses, is_long}
+use Rattle.qsr_inputs.specs.Parts.{Then}
+use Rattle.qsr_inputs.specs.Inputs.{Searched, Claimed}
+use Rattle.qsr_inputs.specs.Given.{GivenTo, ReadBy, DocumentsGive, SourceGives, Input, IsInput, InputOf}
+use Rattle.qsr_inputs.specs.declared.statuses.Status.TheVariants.{Usage, Refused, TooLong}
+use Rattle.qsr_inputs.proofs.InputsThere.{There, value, stops, Then-there, IsOfWord, CalculusOf-there, SourceNetwork-there, PlacedNetwork-there, IsOver, IsSoundSearch, SearchedOf-there, IsSoundClaim, ClaimedOf-there}
+use Rattle.qsr_answers.specs.Texts.{usage_text, refusal_text}
+use Rattle.qsr_answers.proofs.SomeCertificates.{Made, checks_there, traces_there}
+use Rattle.qsr_answers.proofs.SomeAnswers.{closes, solves}
+use Rattle.qsr_top.specs.Output.{Makes}
 use Rattle.qsr_top.specs.Laws.{HasOutput, OutputIsThere}
-use Rattle.qsr_top.specs.declared.statuses.Status.TheVariants.{Done, No, Usage, Refused, TooLong}
-use Rattle.qsr_top.proofs.InputsThere.{There, value, stops, Then-there, IsOfWord, CalculusOf-there, SourceNetwork-there, PlacedNetwork-there, IsOver, IsGuide, IsSoundSearch, SearchedOf-there, IsSoundClaim, ClaimedOf-there}
-use Rattle.qsr_top.proofs.SomeCertificates.{Made, checks_there, traces_there}
-use Rattle.qsr_top.proofs.Verdicts.{verdict_true, no_rules_out}
 use Rattle.qsr_top.proofs.Working.{working_output, long_output}
-
--- ---- closing
-
-zero_or_not : (words : List ℕ) → Contains words 0 ⊎ (¬ Contains words 0)
-zero_or_not [] = inr (λ h. omega (arith, h.1))
-zero_or_not (w ∷ ws) = elim (cases_eq w 0) [
-  | inl e ↦ inl (0, omega arith, e)
-  | inr other ↦ elim (zero_or_not ws) [
-    | inl h ↦ inl (suc h.0, omega (arith, h.1), h.2)
-    | inr none ↦ inr (λ h. none (Contains-tail w ws 0 other h))
-  ]
-]
-
--- over a lawful calculus
-module _ (c : NamedAlgebra) (net : Network) (lawful : IsNamedCalculus c) (over : IsOver c net) where
-  closes : Made (ClosesNetwork c net)
-  closes =
-      let closure = closure_of c.algebra net.nodes net.words lawful.lawful over.network in
-      let closed : Network = record net { words = closure.0 } in
-      let text : List ℕ = network_text c closed in
-      elim (zero_or_not closure.0) [
-        | inl empty ↦ record {
-          text = text;
-          status = No;
-          answered = tt;
-          work = record { closed = closed; closure_text = record { rest = refl; closure = closure.1; text_is = refl }; verdict = empty };
-        }
-        | inr none ↦ record {
-          text = text;
-          status = Done;
-          answered = tt;
-          work = record { closed = closed; closure_text = record { rest = refl; closure = closure.1; text_is = refl }; verdict = none };
-        }
-      ]
-
--- ---- searching
-
-verdict_answers : (v : Verdict) → IsAnswered (verdict_status v)
-verdict_answers (verdict.Yes relations nodes) = tt
-verdict_answers (verdict.No nodes) = tt
-verdict_answers (verdict.Budget nodes) = tt
-
-solves : (asked : SolveAsked) (g : Guided) (net : Network) → IsGuide g → IsOver g.calculus net → Made (SolvesNetwork asked g.calculus g.class net)
-solves asked g net guide over =
-    let c : NamedAlgebra = g.calculus in
-    let v = verdict_exists c.algebra net.nodes g.class asked.budget net.words guide.lawful.lawful over.network guide.guides.is_class guide.guides.bases in
-    let is_true = verdict_true g net asked.budget v.0 guide.lawful.lawful over.network guide.guides v.1 in
-    record {
-      text = answer_text asked.is_cert c net v.0;
-      status = verdict_status v.0;
-      answered = verdict_answers v.0;
-      work = record {
-        verdict = v.0;
-        ruled = v.1;
-        is_true = is_true;
-        rules_out = no_rules_out c net asked.budget v.0 guide.lawful.lawful over.network is_true;
-        text_is = refl;
-        status_is = refl;
-      };
-    }
 
 -- ---- a command
 

@@ -2,11 +2,12 @@
 use Rattle.std.proofs.Common.{ℕ, List, [], Err, inl, refl}
 use Rattle.qsr_outside.specs.Documents.{Documents}
 use Rattle.qsr_words.specs.Asked.{Asked, close, solve, check, trace, relate, serve, demo}
-use Rattle.qsr_top.specs.Stops.{is_long}
-use Rattle.qsr_top.specs.Ends.{IsAnswered}
-use Rattle.qsr_top.specs.Output.{OutputOf, InputOf, LongOutput, Works}
-use Rattle.qsr_top.specs.declared.statuses.Status.{Status}
-use Rattle.qsr_top.specs.declared.statuses.Status.TheVariants.{Done, No, Budget, NotAccepted}
+use Rattle.qsr_inputs.specs.Stops.{is_long}
+use Rattle.qsr_inputs.specs.Given.{InputOf}
+use Rattle.qsr_inputs.specs.declared.statuses.Status.{Status}
+use Rattle.qsr_inputs.specs.declared.statuses.Status.TheVariants.{Done, No, Budget, NotAccepted}
+use Rattle.qsr_answers.specs.Commands.{IsAnswered}
+use Rattle.qsr_top.specs.Output.{OutputOf, LongOutput, Works}
 
 pub working_output : (asked : Asked) (documents : Documents) (bytes text : List ℕ) (status : Status) → IsAnswered status → Works asked documents bytes text status → OutputOf asked documents bytes text status
 working_output asked documents bytes text Done is h = h

@@ -1,5 +1,5 @@
--- What the calls of a command promise of the shelf and of the source, as records over the meanings of both.
-use Rattle.std.specs.Prelude.{◌≡◌, ◌⊎◌, ◌+◌, ◌<◌, ◌≤◌, ℕ, ⊤, List, [], ◌∷◌, Option, Some, Result, Ok, Err, IfSome, IfOk, IfErr, OnOk}
+-- What the answer of a command promises, of the shelf and of the source, as records over the meanings of both.
+use Rattle.std.specs.Prelude.{◌≡◌, ◌⊎◌, ◌+◌, ◌<◌, ◌≤◌, ℕ, ⊤, List, [], Option, Some, Result, Err, IfOk, IfErr, OnOk}
 use Rattle.std.specs.String.{string_bytes}
 use Rattle.std.specs.Io.KnownBytes.{IsAtEnd}
 use Rattle.qsr_lex.specs.declared.TheConstants.{MAX_TEXT}
@@ -9,52 +9,18 @@ use Rattle.qsr_outside.specs.Reading.{IsTooLongOrMemory as IsTooLongRead}
 use Rattle.qsr_outside.specs.declared.reading.ReadStop.{ReadStop}
 use Rattle.qsr_outside.specs.declared.reading.ReadStop.TheVariants as read
 use Rattle.qsr_words.specs.Asked.{Asked}
-use Rattle.qsr_top.specs.Stops.{Cause, HasCause, IsTooLongStop}
+use Rattle.qsr_inputs.specs.Stops.{IsTooLongStop}
+use Rattle.qsr_inputs.specs.Told.{WhereTold, SourceWaits, AbsentStays, AfterSource, named_documents, documents_of}
+use Rattle.qsr_inputs.specs.declared.statuses.Status.{Status}
+use Rattle.qsr_inputs.specs.declared.statuses.Status.TheVariants as status
+use Rattle.qsr_inputs.specs.declared.stops.Stop.{Stop}
+use Rattle.qsr_inputs.specs.declared.stops.Stop.TheVariants as stop
+use Rattle.qsr_answers.specs.Texts.{refusal_text}
+use Rattle.qsr_answers.specs.Commands.{IsAnswered}
+use Rattle.qsr_answers.specs.declared.answers.Answer.{Answer}
 use Rattle.qsr_top.specs.Output.{Output, OutputOf}
-use Rattle.qsr_top.specs.Texts.{refusal_text}
-use Rattle.qsr_top.specs.Ends.{MayEnd, IsAnswered, end_of_stop}
+use Rattle.qsr_top.specs.Ends.{MayEnd, end_of_stop}
 use Rattle.qsr_top.specs.SinkAfter.{IsWritten}
-use Rattle.qsr_top.specs.Told.{WhereTold, SourceWaits, AbsentStays, AfterSource, AreThere, named_documents, documents_of}
-use Rattle.qsr_top.specs.declared.answers.Answer.{Answer}
-use Rattle.qsr_top.specs.declared.statuses.Status.{Status}
-use Rattle.qsr_top.specs.declared.statuses.Status.TheVariants as status
-use Rattle.qsr_top.specs.declared.stops.Stop.{Stop}
-use Rattle.qsr_top.specs.declared.stops.Stop.TheVariants as stop
-
--- ---- documents
-
--- a fact of the documents of names: of any documents where none is named, else of those that are told
-abbrev pub OfNamed : List (List ℕ) → Option Documents → (Documents → Type 0) → Type 0
-OfNamed [] told Fact = (documents : Documents) → Fact documents
-OfNamed (name ∷ names) told Fact = IfSome told Fact
-
--- a part is read from the documents of these names, and the shelf is else as it was
-pub record Fetches {F A : Type 0} (documents : F → Option Documents) (faults given absent_openings : F → ℕ) (names : List (List ℕ))
-    (Part : Documents → Result A Cause → Type 0) (old new : F) (result : Result A Stop) : Type 0 where
-  pub value : IfOk result (λ v. OfNamed names (documents old) (λ d. Part d (Ok v)))
-  pub cause : IfErr result (λ s. OfNamed names (documents old) (λ d. HasCause (Part d) s))
-  pub read_fault : result ≡ Err stop.ReadFault → Rose (faults old) (faults new)
-  pub too_long : result ≡ Err stop.TooLong → RoseAbove (given old) (given new) MAX_TEXT
-  pub faults_are_told : (result ≡ Err stop.ReadFault) ⊎ (faults new ≡ faults old)
-  pub faults_never_fall : faults old ≤ faults new
-  pub given_never_falls : given old ≤ given new
-  pub documents_stay : documents new ≡ documents old
-  pub absent_openings_stay : AreThere names (documents old) → absent_openings new ≡ absent_openings old
-  pub none_stays : names ≡ [] → new ≡ old
-
--- ---- the source
-
--- a part is read from the source, to its end
-pub record Reads {S A : Type 0} (left : S → Option (List ℕ)) (faults given : S → ℕ) (Part : List ℕ → Result A Cause → Type 0)
-    (old new : S) (result : Result A Stop) : Type 0 where
-  pub value : IfOk result (λ v. IfSome (left old) (λ bytes. Part bytes (Ok v)))
-  pub cause : IfErr result (λ s. IfSome (left old) (λ bytes. HasCause (Part bytes) s))
-  pub ends : OnOk result (IsAtEnd (left new))
-  pub read_fault : result ≡ Err stop.ReadFault → Rose (faults old) (faults new)
-  pub too_long : result ≡ Err stop.TooLong → RoseAbove (given old) (given new) MAX_TEXT
-  pub above : given old + MAX_TEXT < given new → IsTooLongStop result
-  pub faults_are_told : (result ≡ Err stop.ReadFault) ⊎ (faults new ≡ faults old)
-  pub faults_never_fall : faults old ≤ faults new
 
 -- ---- a command
 

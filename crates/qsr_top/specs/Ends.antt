@@ -3,8 +3,8 @@ use Rattle.std.specs.Prelude.{Option, None, Some}
 use Rattle.qsr_outside.specs.declared.reading.ReadStop.{ReadStop}
 use Rattle.qsr_outside.specs.declared.reading.ReadStop.TheVariants as stop
 use Rattle.qsr_words.specs.Asked.{Asked, close, solve, check, trace, relate, serve, demo}
-use Rattle.qsr_top.specs.declared.statuses.Status.{Status}
-use Rattle.qsr_top.specs.declared.statuses.Status.TheVariants.{Done, No, Usage, ReadFault, WriteFault, Memory, Budget, NotAccepted, TooLong}
+use Rattle.qsr_inputs.specs.declared.statuses.Status.{Status}
+use Rattle.qsr_inputs.specs.declared.statuses.Status.TheVariants.{Done, No, Usage, ReadFault, WriteFault, Memory, Budget, NotAccepted, TooLong}
 
 -- the ends of the command that closes a network
 abbrev pub IsCloseEnd : Status → Type 0
@@ -76,14 +76,6 @@ IsLongEnd Memory asked = Unit {0}
 IsLongEnd WriteFault (Some (serve asked)) = Unit {0}
 IsLongEnd WriteFault asked = ⊥
 IsLongEnd status asked = ⊥
-
--- a command was answered by what it makes of its input
-abbrev pub IsAnswered : Status → Type 0
-IsAnswered Done = Unit {0}
-IsAnswered No = Unit {0}
-IsAnswered Budget = Unit {0}
-IsAnswered (NotAccepted number place) = Unit {0}
-IsAnswered status = ⊥
 
 -- the end of a run whose input was not read to its end
 abbrev pub end_of_stop : ReadStop → Status

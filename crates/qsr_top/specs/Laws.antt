@@ -3,9 +3,9 @@ use Rattle.std.specs.Prelude.{◌≡◌, ℕ, ⊤, false, List, All, Option, Non
 use Rattle.qsr_outside.specs.Documents.{Documents, document}
 use Rattle.qsr_words.specs.Asked.{Asked, close, solve, check, trace, relate, serve, demo, asked_by}
 use Rattle.qsr_words.specs.Requests.{FitsCalculus}
-use Rattle.qsr_top.specs.Told.{named_documents, is_served}
+use Rattle.qsr_inputs.specs.Told.{named_documents, is_served}
+use Rattle.qsr_inputs.specs.declared.statuses.Status.{Status}
 use Rattle.qsr_top.specs.Output.{Output}
-use Rattle.qsr_top.specs.declared.statuses.Status.{Status}
 
 -- one text and one status at most, but for scripts, where peeks may show different sets
 abbrev pub OutputIsOne : Type 0

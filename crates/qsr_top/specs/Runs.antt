@@ -6,12 +6,13 @@ use Rattle.qsr_outside.specs.Counts.{Rose, RoseAbove}
 use Rattle.qsr_outside.specs.Documents.{Documents}
 use Rattle.qsr_outside.specs.Writing.{AppendsPart}
 use Rattle.qsr_words.specs.Asked.{Asked}
-use Rattle.qsr_top.specs.Texts.{usage_text}
-use Rattle.qsr_top.specs.Ends.{MayEnd, IsAnswered, IsLongEnd}
+use Rattle.qsr_inputs.specs.Told.{WhereTold, SourceWaits, AbsentStays, AfterSource, named_documents}
+use Rattle.qsr_inputs.specs.declared.statuses.Status.{Status}
+use Rattle.qsr_inputs.specs.declared.statuses.Status.TheVariants.{ReadFault, WriteFault, TooLong}
+use Rattle.qsr_answers.specs.Texts.{usage_text}
+use Rattle.qsr_answers.specs.Commands.{IsAnswered}
+use Rattle.qsr_top.specs.Ends.{MayEnd, IsLongEnd}
 use Rattle.qsr_top.specs.SinkAfter.{LeavesInSink, LeavesByStatus}
-use Rattle.qsr_top.specs.Told.{WhereTold, SourceWaits, AbsentStays, AfterSource, named_documents}
-use Rattle.qsr_top.specs.declared.statuses.Status.{Status}
-use Rattle.qsr_top.specs.declared.statuses.Status.TheVariants.{ReadFault, WriteFault, TooLong}
 
 -- a run whose words ask for this
 pub record Runs {F S W : Type 0} (documents : F → Option Documents) (faults given absent_openings : F → ℕ)

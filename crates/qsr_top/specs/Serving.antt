@@ -14,10 +14,10 @@ use Rattle.session_run.specs.Batches.{BatchState}
 use Rattle.session_run.specs.Scripts.{batches_of, committed_of}
 use Rattle.session_run.specs.Replies.{IsAnswered, AreAnswered}
 use Rattle.session_run.specs.declared.TheConstants.{PIECE}
-use Rattle.qsr_top.specs.Inputs.{CalculusOf}
+use Rattle.qsr_inputs.specs.Inputs.{CalculusOf}
+use Rattle.qsr_inputs.specs.declared.statuses.Status.{Status}
+use Rattle.qsr_inputs.specs.declared.statuses.Status.TheVariants.{Done, ReadFault, WriteFault, Memory, TooLong}
 use Rattle.qsr_top.specs.Ends.{IsLongEnd}
-use Rattle.qsr_top.specs.declared.statuses.Status.{Status}
-use Rattle.qsr_top.specs.declared.statuses.Status.TheVariants.{Done, ReadFault, WriteFault, Memory, TooLong}
 
 -- the store before the first batch: n nodes, and version 0, which has no facts
 abbrev pub first_store : Algebra → ℕ → StoreState

@@ -4,13 +4,13 @@ use Rattle.std.specs.Io.KnownBytes.{Appends, Keeps}
 use Rattle.qsr_outside.specs.Documents.{Documents}
 use Rattle.qsr_outside.specs.Writing.{AppendsPart}
 use Rattle.qsr_words.specs.Asked.{Asked, serve}
+use Rattle.qsr_inputs.specs.Told.{is_served}
+use Rattle.qsr_inputs.specs.declared.statuses.Status.{Status}
+use Rattle.qsr_inputs.specs.declared.statuses.Status.TheVariants.{Done, No, Usage, Refused, ReadFault, WriteFault, Memory, Budget, NotAccepted, TooLong}
+use Rattle.qsr_answers.specs.Texts.{refusal_text, usage_text, not_accepted_text}
 use Rattle.qsr_top.specs.Ends.{MayEnd}
-use Rattle.qsr_top.specs.Told.{is_served}
 use Rattle.qsr_top.specs.Output.{Output}
 use Rattle.qsr_top.specs.Serving.{Over, WritesGiven, WritesFirst, WritesPartOfBatch}
-use Rattle.qsr_top.specs.Texts.{refusal_text, usage_text, not_accepted_text}
-use Rattle.qsr_top.specs.declared.statuses.Status.{Status}
-use Rattle.qsr_top.specs.declared.statuses.Status.TheVariants.{Done, No, Usage, Refused, ReadFault, WriteFault, Memory, Budget, NotAccepted, TooLong}
 
 -- the bytes held, where told, grew by a whole text that is permitted with this status
 pub record WritesOutput (asked : Option Asked) (documents : Documents) (bytes : List ℕ) (old new : Option (List ℕ)) (status : Status) : Type 0 where

@@ -6,13 +6,13 @@ use Rattle.qsr_outside.specs.Counts.{Rose}
 use Rattle.qsr_outside.specs.Writing.{AppendsPart}
 use Rattle.qsr_outside.specs.declared.reading.ReadStop.{ReadStop}
 use Rattle.qsr_outside.specs.declared.reading.ReadStop.TheVariants as read
-use Rattle.qsr_top.specs.Texts.{refusal_text}
+use Rattle.qsr_inputs.specs.declared.statuses.Status.{Status}
+use Rattle.qsr_inputs.specs.declared.statuses.Status.TheVariants.{Refused, WriteFault}
+use Rattle.qsr_inputs.specs.declared.stops.Stop.{Stop}
+use Rattle.qsr_inputs.specs.declared.stops.Stop.TheVariants as stop
+use Rattle.qsr_answers.specs.Texts.{refusal_text}
+use Rattle.qsr_answers.specs.declared.answers.Answer.{Answer}
 use Rattle.qsr_top.specs.Ends.{end_of_stop}
-use Rattle.qsr_top.specs.declared.answers.Answer.{Answer}
-use Rattle.qsr_top.specs.declared.statuses.Status.{Status}
-use Rattle.qsr_top.specs.declared.statuses.Status.TheVariants.{Refused, WriteFault}
-use Rattle.qsr_top.specs.declared.stops.Stop.{Stop}
-use Rattle.qsr_top.specs.declared.stops.Stop.TheVariants as stop
 
 abbrev pub IsSpoken : Result Answer Stop → Result Answer ReadStop → Type 0
 IsSpoken (Ok answer) result = result ≡ Ok answer

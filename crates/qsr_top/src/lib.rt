@@ -1,28 +1,17 @@
 //! The top call of the reasoner: from words and bytes to bytes and a status.
+//!
+//! ```text
+//! let status = run(&rt, rt.alloc(), &words, &mut shelf, &mut source, &mut sink, &NoGate);
+//! ExitCode::from(status.code())
+//! ```
 #![tactic(auto)]
 
-mod answers;
-mod checking;
-mod claims;
-mod classes;
-mod closing;
-mod demonstrating;
-mod inputs;
+mod commands;
 mod laws;
-mod placing;
-mod polygons;
-mod relating;
 mod running;
 mod serving;
-mod solving;
-mod statuses;
-mod stops;
-#[cfg(test)]
-mod tests;
-mod texts;
-mod tracing;
 mod writing;
 
 pub use laws::output_is_one;
+pub use qsr_inputs::{Place, Status};
 pub use running::run;
-pub use statuses::{Place, Status};

@@ -7,24 +7,21 @@ ghost use Rattle.qsr_outside.specs.Counts.{Rose, RoseAbove};
 ghost use Rattle.qsr_outside.specs.Writing.{AppendsPart};
 ghost use Rattle.qsr_words.specs.Asked.{asked_by};
 ghost use Rattle.qsr_words.specs.Requests.{asked_of, IsWithinLimits};
-ghost use Rattle.qsr_top.specs.Texts.{usage_text};
-ghost use Rattle.qsr_top.specs.Ends.{MayEnd, IsAnswered, IsLongEnd};
+ghost use Rattle.qsr_inputs.specs.Told.{WhereTold, SourceWaits, AbsentStays, AfterSource, named_documents};
+ghost use Rattle.qsr_answers.specs.Texts.{usage_text};
+ghost use Rattle.qsr_answers.specs.Commands.{IsAnswered};
+ghost use Rattle.qsr_top.specs.Ends.{MayEnd, IsLongEnd};
 ghost use Rattle.qsr_top.specs.SinkAfter.{LeavesInSink, LeavesByStatus};
-ghost use Rattle.qsr_top.specs.Told.{WhereTold, SourceWaits, AbsentStays, AfterSource, named_documents};
 ghost use Rattle.qsr_top.specs.Runs.{Runs};
 
-use crate::answers::usage;
-use crate::checking::check_answer;
-use crate::closing::close_answer;
-use crate::demonstrating::demo_answer;
-use crate::relating::relate_answer;
+use crate::commands::{
+    check_answer, close_answer, demo_answer, relate_answer, solve_answer, trace_answer,
+};
 use crate::serving::serve_script;
-use crate::solving::solve_answer;
-use crate::statuses::Status;
-use crate::stops::Stop;
-use crate::tracing::trace_answer;
 use crate::writing::write_answer;
 use calculus_table::Memory;
+use qsr_answers::usage;
+use qsr_inputs::{Status, Stop};
 use qsr_lex::MAX_TEXT;
 use qsr_outside::{Gate, Shelf, Sink, Source};
 use qsr_words::{Request, read};

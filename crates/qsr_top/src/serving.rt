@@ -9,11 +9,10 @@ ghost use Rattle.qsr_words.specs.Requests.{serve_of, AreServed};
 ghost use Rattle.qsr_top.specs.Serving.{Serves, end_of_serving};
 ghost use Rattle.qsr_top.specs.Runs.{Runs};
 
-use crate::inputs::calculus;
-use crate::statuses::Status;
 use crate::writing::{end_of_stop, write_answer};
 use calculus_table::{Calculus, Memory};
 use compose_fast::Fast;
+use qsr_inputs::{Status, calculus};
 use qsr_lex::MAX_TEXT;
 use qsr_outside::{Gate, Shelf, Sink, Source, WriteStop, write_all};
 use qsr_words::Serve;

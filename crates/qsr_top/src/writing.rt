@@ -4,9 +4,8 @@ ghost use Rattle.std.specs.String.{string_bytes};
 ghost use Rattle.qsr_top.specs.Ends.{end_of_stop};
 ghost use Rattle.qsr_top.specs.Spoken.{IsSpoken, IsWriting, Tells};
 
-use crate::answers::{Answer, refused};
-use crate::statuses::Status;
-use crate::stops::Stop;
+use qsr_answers::{Answer, refused};
+use qsr_inputs::{Status, Stop};
 use qsr_outside::{ReadStop, Sink, WriteStop, write_all};
 use std::alloc::Global;
 

@@ -14,8 +14,6 @@ mod reading;
 mod relate;
 mod serve;
 mod solve;
-#[cfg(test)]
-mod tests;
 mod values;
 
 pub use check::Check;

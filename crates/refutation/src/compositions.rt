@@ -5,7 +5,7 @@
 //! 256 bytes, and a table of 8 KB has the compositions of each nibble with each byte. So a composition costs the same
 //! whatever the sets, without a loop, and a converse is one look-up likewise. A larger calculus composes as `Fast` does:
 //! which of the two is asked once for all steps of a node, and not at each. So it does where few steps are taken, since
-//! making the table takes as long as some thousand compositions.
+//! making the table takes as long as some thousand compositions. Most of its entries are unions of two earlier ones.
 
 ghost use Rattle.std.specs.Prelude.{◌≡◌, ℕ, ◌+◌, ◌*◌, ◌<◌, ◌≤◌, length, slice_index, IfOk};
 ghost use Rattle.compose_fast.specs.Nibbles.{nibble};
@@ -74,6 +74,24 @@ fn pair_entry(c: &Fast, e: u32) -> u8
         .word() as u8
 }
 
+/// The composition of a nibble with a byte, at its place in the table, where those before it are known: the union of the
+/// compositions with the two nibbles of the byte, if neither is empty.
+fn next_pair_entry(c: &Fast, pairs: &[u8], e: u32) -> u8
+    requires few { c.now.size ≤ 8 }
+    requires below { e < 8192 }
+    requires length_is { length pairs.now ≡ e }
+    requires each { (d : ℕ) → d < e → slice_index pairs.now d ≡ pair_entry c.now d }
+    ensures { result ≡ pair_entry c.now e }
+{
+    let low = e % 16;
+    let high = e % 256 - low;
+    if low == 0 || high == 0 {
+        return pair_entry(c, e);
+    }
+    lawful(c);
+    pairs[(e - high) as usize] | pairs[(e - low) as usize]
+}
+
 /// The converse of a byte.
 fn converse_entry(c: &Fast, b: u32) -> u8
     requires few { c.now.size ≤ 8 }
@@ -92,7 +110,8 @@ fn pairs_of(alloc: Global, c: &Fast) -> Result<Vec<u8>, Memory>
 {
     let mut pairs = Vec::new(alloc);
     for e in 0..8192 {
-        pairs.push(pair_entry(c, e)).map_err(|_| Memory)?;
+        let entry = next_pair_entry(c, &pairs, e);
+        pairs.push(entry).map_err(|_| Memory)?;
     }
     Ok(pairs)
 }

@@ -21,8 +21,6 @@ mod networks;
 mod rows;
 mod ruling;
 mod stepped;
-#[cfg(test)]
-mod tests;
 mod tracing;
 mod tree;
 mod walking;

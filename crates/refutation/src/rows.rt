@@ -1,41 +1,43 @@
 //! Where the rows of edges begin.
 //!
-//! The edge from `i` to `j`, where `i < j`, is the one with number `j - i - 1` in the row of `i`. So with the number at
-//! which each row begins the number of an edge takes one look-up and no multiplication.
+//! The edge from `i` to `j`, where `i < j`, is the one with number `j - i - 1` in the row of `i`. So with one number for
+//! each row, that at which it begins without `i`, the number of an edge takes one look-up and no multiplication. That
+//! number would be less than nothing for the first row, so that a constant is added to it, and taken off again.
 
 ghost use Rattle.std.specs.Prelude.{◌≡◌, ℕ, ◌<◌, ◌≤◌, length, slice_index, IfOk};
 ghost use Rattle.network_words.specs.declared.TheConstants.{MAX_NODES};
-ghost use Rattle.refutation.specs.Rows.{row_start};
+ghost use Rattle.refutation.specs.Rows.{row_shift};
 
 use calculus_table::Memory;
+use network_words::MAX_NODES;
 use std::alloc::Global;
 use std::marker::Model;
 
-/// The numbers at which the rows of edges begin.
+/// For each row of edges the number at which it begins, shifted.
 #[derive(Debug, Drop)]
 pub(crate) struct Rows {
     nodes: u32,
-    starts: Vec<u32>,
+    shifts: Vec<u32>,
 }
 
 impl Model for Rows {
     ghost use Rattle.std.specs.Prelude.{ℕ};
-    ghost use Rattle.refutation.specs.Rows.{AreStarts};
+    ghost use Rattle.refutation.specs.Rows.{AreShifts};
 
     ghost Value = { ℕ };
 
     ghost view = { λ a. a.nodes };
 
-    ghost invariant = { λ a. AreStarts a.nodes a.starts.items };
+    ghost invariant = { λ a. AreShifts a.nodes a.shifts.items };
 }
 
-/// The number at which the row of `i` begins.
-fn row_start(nodes: u32, i: u32) -> u32
+/// What the number of an edge from `i` to `j` has more than `j`, shifted.
+fn row_shift(nodes: u32, i: u32) -> u32
     requires few { nodes ≤ MAX_NODES }
     requires below { i < nodes }
-    ensures { result ≡ row_start nodes i }
+    ensures { result ≡ row_shift nodes i }
 {
-    i * (2 * nodes - i - 1) / 2
+    i * (2 * nodes - i - 1) / 2 + (MAX_NODES - i)
 }
 
 impl Rows {
@@ -48,11 +50,11 @@ impl Rows {
         requires { nodes ≤ MAX_NODES }
         ensures { IfOk result (λ rows. rows ≡ nodes) }
     {
-        let mut starts = Vec::new(alloc);
+        let mut shifts = Vec::new(alloc);
         for i in 0..nodes {
-            starts.push(row_start(nodes, i)).map_err(|_| Memory)?;
+            shifts.push(row_shift(nodes, i)).map_err(|_| Memory)?;
         }
-        Ok(Rows { nodes, starts })
+        Ok(Rows { nodes, shifts })
     }
 
     /// The number of the edge from `i` to `j`, where `i < j`.
@@ -63,20 +65,16 @@ impl Rows {
         ensures value { result ≡ edge_at self.now i j }
         ensures below { result < edge_count self.now }
     {
-        self.starts[i as usize] + (j - i - 1)
+        self.shifts[i as usize] + j - (MAX_NODES + 1)
     }
 
-    /// The number of the edge between two nodes, in whichever order.
+    /// The number of the edge between two nodes, in whichever order: without a branch, as `between` has it.
     #[inline(always)]
     pub(crate) fn edge(&self, i: u32, j: u32) -> u32
         requires { IsProperPair self.now i j }
         ensures value { result ≡ edge_between self.now i j }
         ensures below { result < edge_count self.now }
     {
-        if i < j {
-            self.edge_at(i, j)
-        } else {
-            self.edge_at(j, i)
-        }
+        self.edge_at(i.min(j), i.max(j))
     }
 }

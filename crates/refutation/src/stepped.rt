@@ -4,7 +4,7 @@
 //! the last first. A step costs one composition, and room for what the steps of a node replace is taken once. A network
 //! that is closed is closed from scratch.
 
-ghost use Rattle.std.specs.Prelude.{◌≡◌, ◌<◌, All, OnOk, length, slice_set};
+ghost use Rattle.std.specs.Prelude.{◌≡◌, ◌+◌, ◌<◌, All, OnOk, length, slice_set, vec_len, vec_capacity};
 ghost use Rattle.calculus_table.specs.Rel.{IsWithin};
 ghost use Rattle.calculus_table.specs.Composition.{full_of};
 ghost use Rattle.network_words.specs.Edge.{edge_count, edge_between, IsProperPair, IsProperTriple};
@@ -57,7 +57,8 @@ pub(crate) fn replace(
     Ok(())
 }
 
-/// The relation of node `i` to node `j`.
+/// The relation of node `i` to node `j`. The converse is had whatever the order of the nodes, since the steps of a
+/// tree have them in either order, and a branch that can't be foretold costs more than a look-up.
 #[inline(always)]
 fn between<C: Compose>(net: &Net, rows: &Rows, c: &C, i: u32, j: u32) -> Rel
     requires network { IsNetwork (C.algebra c.now) net.now.nodes net.now.words }
@@ -66,7 +67,9 @@ fn between<C: Compose>(net: &Net, rows: &Rows, c: &C, i: u32, j: u32) -> Rel
     ensures value { result ≡ relation_between (C.algebra c.now) net.now.nodes net.now.words i j }
     ensures within { IsWithin result (full_of (C.algebra c.now)) }
 {
-    oriented(c, i, j, net.word(rows.edge(i, j)))
+    let set = net.word(rows.edge(i, j));
+    let converse = c.converse(set);
+    if i < j { set } else { converse }
 }
 
 /// The composition along a step, as its edge stores it.
@@ -84,32 +87,44 @@ pub(crate) fn along<C: Compose>(net: &Net, rows: &Rows, c: &C, step: &Step) -> R
     oriented(c, step.i, step.k, c.compose(first, second))
 }
 
-/// Takes a step.
+/// Replaces the set of an edge, where the trail has room for one more.
 #[inline(always)]
-fn take_step<C: Compose>(
-    net: &mut Net,
-    trail: &mut Vec<Replaced>,
-    rows: &Rows,
-    c: &C,
-    step: &Step,
-) -> Result<(), Memory>
+fn replace_reserved(net: &mut Net, trail: &mut Vec<Replaced>, edge: u32, rel: Rel)
+    requires below { edge < edge_count net.old.nodes }
+    requires room { vec_len trail.old < vec_capacity trail.old }
+    ensures words { net.new ≡ record net.old { words = slice_set net.old.words edge rel } }
+    ensures trail { KeepsTrail net.old.nodes net.old.words trail.old.items net.new.words trail.new.items }
+    ensures nodes { net.new.nodes ≡ net.old.nodes }
+    ensures len { vec_len trail.new ≡ vec_len trail.old + 1 }
+    ensures capacity { vec_capacity trail.new ≡ vec_capacity trail.old }
+{
+    let old = net.word(edge);
+    trail.push_reserved(Replaced { edge, old });
+    net.set(edge, rel);
+}
+
+/// Takes a step, where the trail has room for one more.
+#[inline(always)]
+fn take_step<C: Compose>(net: &mut Net, trail: &mut Vec<Replaced>, rows: &Rows, c: &C, step: &Step)
     requires network { IsNetwork (C.algebra c.now) net.old.nodes net.old.words }
     requires rows { rows.now ≡ net.old.nodes }
     requires proper { IsProperTriple net.old.nodes step.now.i step.now.j step.now.k }
-    ensures words { OnOk result (net.new ≡ record net.old {
+    requires room { vec_len trail.old < vec_capacity trail.old }
+    ensures words { net.new ≡ record net.old {
       words = after_step (C.algebra c.now) net.old.nodes net.old.words step.now;
-    }) }
-    ensures trail { OnOk result
-        (KeepsTrail net.old.nodes net.old.words trail.old.items net.new.words trail.new.items) }
+    } }
+    ensures trail { KeepsTrail net.old.nodes net.old.words trail.old.items net.new.words trail.new.items }
     ensures nodes { net.new.nodes ≡ net.old.nodes }
+    ensures len { vec_len trail.new ≡ vec_len trail.old + 1 }
+    ensures capacity { vec_capacity trail.new ≡ vec_capacity trail.old }
 {
     let composed = along(net, rows, c, step);
     let edge = rows.edge(step.i, step.k);
     let set = net.word(edge).meet(composed);
-    replace(net, trail, edge, set)
+    replace_reserved(net, trail, edge, set);
 }
 
-/// Takes the steps, the first one first.
+/// Takes the steps, the first one first. Room for what they replace is taken once.
 fn take_steps<C: Compose>(
     net: &mut Net,
     trail: &mut Vec<Replaced>,
@@ -131,7 +146,7 @@ fn take_steps<C: Compose>(
         return Err(Memory);
     };
     for step in steps {
-        take_step(net, trail, rows, c, step)?;
+        take_step(net, trail, rows, c, step);
     }
     Ok(())
 }

@@ -24,8 +24,8 @@ use calculus_table::{Compose, Memory, Rel};
 use network_words::Net;
 use std::alloc::Global;
 
-/// So many steps are many: twice as many as there are compositions in a table.
-const MANY: usize = 16_384;
+/// So many steps are many: four times as many as there are compositions to be made for a table.
+const MANY: usize = 4_096;
 
 /// A node on the way.
 #[derive(Clone, Copy, Debug, PartialEq, Eq)]

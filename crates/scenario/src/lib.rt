@@ -17,8 +17,6 @@ mod checking;
 mod edges;
 mod entries;
 mod laws;
-#[cfg(test)]
-mod tests;
 mod triples;
 
 pub use checking::{At, Scenario, check};

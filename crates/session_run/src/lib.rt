@@ -22,8 +22,6 @@ mod replies;
 mod run;
 mod sessions;
 mod steps;
-#[cfg(test)]
-mod tests;
 
 pub use batch::{Batch, Line, What};
 pub use laws::limits_of_scripts;

@@ -16,8 +16,6 @@ mod draft;
 mod held;
 mod laws;
 mod store;
-#[cfg(test)]
-mod tests;
 mod version;
 
 pub use draft::{Draft, WithdrawFault};

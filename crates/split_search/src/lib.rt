@@ -29,8 +29,6 @@ mod known_parts;
 mod laws;
 mod searching;
 mod split;
-#[cfg(test)]
-mod tests;
 mod verdict;
 
 pub use choosing::ruled_split;

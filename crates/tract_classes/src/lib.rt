@@ -25,8 +25,6 @@ mod pairs;
 mod partition;
 mod rows;
 mod sorted;
-#[cfg(test)]
-mod tests;
 
 pub use built_in::{c8, h8, none, q8};
 pub use class::Class;

@@ -1,5 +1,5 @@
 use Rattle.qsr_words.specs.Requests.{serve_of}
-use Rattle.qsr_top.specs.declared.statuses.Status.TheVariants.{Memory}
+use Rattle.qsr_inputs.specs.declared.statuses.Status.TheVariants.{Memory}
 use Rattle.qsr_top.proofs.ServingRuns.{serving_runs, refused_runs}
 use Rattle.qsr_top.proofs.serving.serve_script.Goals as goal
 

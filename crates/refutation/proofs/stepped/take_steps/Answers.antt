@@ -16,7 +16,7 @@ loop-step-preserved g c =
     let at = c.loop-step.step-index in
     let step : Step = get_or c.args.steps.now at (record { i = 0; j = 0; k = 0 }) in
     let inv = c.loop-step.invariant in
-    let taken = c.in_ok-take_step.ensures in
+    let taken = c.take_step.ensures in
     let words = ap (λ (y : Network). y.words) taken.words in
     let nodes : net.nodes ≡ old.nodes = ap (λ (y : Network). y.nodes) inv.rest in
     let here : drop at c.args.steps.now ≡ step ∷ drop (at + 1) c.args.steps.now =
@@ -25,6 +25,7 @@ loop-step-preserved g c =
       network = rw (taken.nodes, words) (after_step-network m net.nodes net.words step inv.network);
       rest = words-then old net new (after_step m net.nodes net.words step) inv.rest taken.words;
       left = rw (taken.nodes, words) (ap (after_steps m net.nodes net.words) (sym here) ∙ inv.left);
+      room = omega (arith, inv.room, taken.len, taken.capacity);
       trail = KeepsTrail-then old.nodes old.words net.words new.words c.reserve.new.self.items c.loop-step.trail.items c.take_step.new.trail.items
           inv.trail (KeepsTrail-nodes net.nodes old.nodes net.words new.words c.loop-step.trail.items c.take_step.new.trail.items nodes taken.trail);
     }

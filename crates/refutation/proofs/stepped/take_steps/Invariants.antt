@@ -1,4 +1,4 @@
-use Rattle.std.proofs.Common.{◌≡◌, drop}
+use Rattle.std.proofs.Common.{◌≡◌, ◌+◌, ◌-◌, ◌≤◌, drop, length, vec_len, vec_capacity}
 use Rattle.network_words.specs.Network.{IsNetwork}
 use Rattle.refutation.specs.Refutes.{after_steps}
 use Rattle.refutation.specs.Networks.{KeepsTrail}
@@ -9,5 +9,6 @@ invariant-loop-step g l = record {
   network : IsNetwork (g.C.Compose.algebra l.c) l.net.nodes l.net.words;
   rest : l.net ≡ record l.initial.net { words = l.net.words };
   left : after_steps (g.C.Compose.algebra l.c) l.net.nodes l.net.words (drop l.step-index l.steps) ≡ after_steps (g.C.Compose.algebra l.c) l.initial.net.nodes l.initial.net.words l.steps;
+  room : vec_len l.trail + (length l.steps - l.step-index) ≤ vec_capacity l.trail;
   trail : KeepsTrail l.initial.net.nodes l.initial.net.words l.initial.trail.items l.net.words l.trail.items;
 }

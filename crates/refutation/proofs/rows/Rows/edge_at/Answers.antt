@@ -1,19 +1,19 @@
-use Rattle.std.proofs.Common.{◌≡◌, ◌+◌, ◌-◌, ◌<◌, ap, sym, subst, ◌∙◌, arith}
+use Rattle.std.proofs.Common.{◌≡◌, ◌<◌, sym, subst, ◌∙◌, arith}
 use Rattle.std.proofs.lemmas.List.{get_or_read}
 use Rattle.network_words.specs.Edge.{edge_at, edge_count}
 use Rattle.network_words.proofs.Edges.{edge_at-lt}
-use Rattle.refutation.specs.Rows.{AreStarts, row_start}
+use Rattle.refutation.specs.Rows.{AreShifts, row_shift}
 use Rattle.refutation.proofs.rows.Rows.edge_at.Goals as goal
 
 pub returns-clause-value : goal.returns-clause-value
 unfolding edge_at
 returns-clause-value c =
-    let starts : AreStarts c.args.self.now c.self.inside.starts.items = rw c.self.view_is at c.self.invariant in
-    let items = c.self.inside.starts.items in
-    let row : c.index.result.now ≡ row_start c.args.self.now c.args.i =
-    get_or_read items _ _ (omega (arith, starts.length_is, c.requires.order, c.requires.below)) c.index.ensures 0
-    ∙ starts.each c.args.i (omega (arith, c.requires.order, c.requires.below)) in
-    ap (λ x. x + (c.args.j - c.args.i - 1)) row
+    let shifts : AreShifts c.args.self.now c.self.inside.shifts.items = rw c.self.view_is at c.self.invariant in
+    let items = c.self.inside.shifts.items in
+    let row : c.index.result.now ≡ row_shift c.args.self.now c.args.i =
+    get_or_read items _ _ (omega (arith, shifts.length_is, c.requires.order, c.requires.below)) c.index.ensures 0
+    ∙ shifts.each c.args.i (omega (arith, c.requires.order, c.requires.below)) in
+    omega (arith, row, shifts.few, c.requires.order, c.requires.below)
 
 pub returns-clause-below : goal.returns-clause-below
 returns-clause-below c =

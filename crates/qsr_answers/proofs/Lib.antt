@@ -1,0 +1,11 @@
+pub mod Verdicts
+pub mod Atomic
+pub mod TracedOnce
+pub mod RelatedOnce
+pub mod CertificatesOnce
+pub mod PairTexts
+pub mod SeedVerdicts
+pub mod RuledOut
+pub mod SomeCertificates
+pub mod AnswersOnce
+pub mod SomeAnswers

@@ -1,0 +1,10 @@
+pub mod Texts
+pub mod Failures
+pub mod Certificates
+pub mod Verdicts
+pub mod Relations
+pub mod Demonstrations
+pub mod Commands
+pub use Rattle.network_words.specs.Network
+pub use Rattle.network_words.specs.Closure
+pub use Rattle.network_file.specs.NetworkText

@@ -1,0 +1,11 @@
+pub mod Parts
+pub mod Naming
+pub mod Fetching
+pub mod Reading
+pub mod InputsOnce
+pub mod InputsThere
+pub mod OnRcc8
+pub mod Guides
+pub mod PlacedNetworks
+pub mod Claiming
+pub mod GivenSearches

@@ -1,0 +1,10 @@
+pub mod Code
+pub mod Stops
+pub mod Parts
+pub mod Numbers
+pub mod Inputs
+pub mod Given
+pub mod Told
+pub mod Readings
+pub use Rattle.network_words.specs.Network
+pub use Rattle.network_words.specs.Facts

@@ -1,0 +1,12 @@
+//! Tests of texts: tokens, line files, words of the command line, and sources and sinks.
+
+#![tactic(auto)]
+
+#[cfg(test)]
+mod commands;
+#[cfg(test)]
+mod files;
+#[cfg(test)]
+mod outside;
+#[cfg(test)]
+mod tokens;

@@ -1,0 +1,16 @@
+//! Tests of scenarios, refutations, certificates and searches.
+
+#![tactic(auto)]
+
+#[cfg(test)]
+mod certificates;
+#[cfg(test)]
+mod colours;
+#[cfg(test)]
+mod nets;
+#[cfg(test)]
+mod refutations;
+#[cfg(test)]
+mod scenarios;
+#[cfg(test)]
+mod searches;
