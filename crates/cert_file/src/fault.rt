@@ -10,9 +10,9 @@ pub enum CertFault {
     /// They are no JSON text.
     #[error("not a JSON text")]
     NotJson,
-    /// A key hasn't a value of the right form: `field` is 0 for the whole, which isn't an object, 1 for `nodes`, 2 for
-    /// `relations`, 3 for `scenario`, 4 for `tree`, 5 for `verdict`, 6 for `version`. `index` is that of the first wrong
-    /// entry, where the value is an array that has one, else 0.
+    /// A key hasn't a value of the right form: `field` is 0 for the whole, which isn't an object, 1 for `nodes`, 2
+    /// for `relations`, 3 for `scenario`, 4 for `tree`, 5 for `verdict`, 6 for `version`. `index` is that of the
+    /// first wrong entry, where the value is an array that has one, else 0.
     #[error("entry {index} of field {field} isn't of the right form")]
     Field { field: u32, index: u32 },
     /// Out of memory.

@@ -1,5 +1,5 @@
 -- Copies of a network's sets: settled, met with words, and compared with them.
-use Rattle.std.proofs.Common.{◌≡◌, ℕ, ◌+◌, ◌<◌, ◌≤◌, List, ap, sym, subst, arith, inl, inr}
+use Rattle.std.proofs.Common.{◌≡◌, ℕ, ◌+◌, ◌<◌, ◌≤◌, List, ap, sym, ◌∙◌, subst, arith, inl, inr}
 use Rattle.std.proofs.lemmas.Bool.{cases_lt}
 use Rattle.calculus_table.specs.Algebra.{Algebra}
 use Rattle.calculus_table.specs.Composition.{full_of}
@@ -10,18 +10,19 @@ use Rattle.network_words.proofs.Pairs.{pair-first, pair-second, pair-outer}
 use Rattle.compose_fast.specs.Planes.{AreBaseTables}
 use Rattle.closure_seq.specs.declared.span.Span.{Span}
 use Rattle.closure_seq.specs.Worklist.{Worklist, IsIdle, IsBegun}
-use Rattle.closure_seq.specs.Propagation.{AreConverses, IsInStep, IsRefinement, IsReady, IsSettled, IsStored}
+use Rattle.closure_seq.specs.Propagation.{AreConverses, IsInStep, IsRefinement, IsReady, IsStep, IsSettled, IsRowSettled, IsStored}
 use Rattle.closure_seq.specs.Paths.{IsPlanes}
-use Rattle.closure_seq.specs.Copies.{CopyState, IsCopyOf, IsSettledCopy, IsMet, AreRowsOf}
-use Rattle.closure_seq.proofs.Settled.{IsSettled-met, AreRowsClosed-idle}
+use Rattle.closure_seq.specs.Copies.{CopyState, IsCopyOf, IsOpenCopy, IsSettledCopy, IsSweptCopy, IsMet, AreRowsOf}
+use Rattle.closure_seq.proofs.Settled.{IsSettled-met, IsSettled-none, IsSettled-row, AreRowsClosed-idle}
+use Rattle.closure_seq.proofs.Steps.{IsMet-step}
 use Rattle.closure_seq.proofs.Starts.{IsSettled-begun}
 use Rattle.closure_seq.proofs.Loads.{IsInStep-queue, IsInStep-stored, AreConverses-in_step}
 use Rattle.closure_seq.proofs.InStep.{AreClosed-in_step}
 use Rattle.closure_seq.proofs.Standing.{planes-le}
 
 -- the rows from that of the first edge of a slice to that of the last one
-pub AreRowsOf-edges : (n from to i j k l : ℕ) → i < j → j < n → k < l → l < n → edge_at n i j ≡ from → edge_at n k l + 1 ≡ to → AreRowsOf n from to (record { first = i; end = k + 1 })
-AreRowsOf-edges n from to i j k l o b p q first last = record {
+pub AreRowsOf-edges : (n from to i j k l : ℕ) → from < to → i < j → j < n → k < l → l < n → edge_at n i j ≡ from → edge_at n k l + 1 ≡ to → AreRowsOf n from to (record { first = i; end = k + 1 })
+AreRowsOf-edges n from to i j k l some o b p q first last = record {
   each = λ x y xy yb ge lt. record {
     from = elim (cases_lt x i) as (λ _. i ≤ x) [
       | inl h ↦ (let less = (edge_at-order n x y i j xy yb o b).1 (inl h) in absurd (omega arith))
@@ -32,12 +33,17 @@ AreRowsOf-edges n from to i j k l o b p q first last = record {
       | inr g ↦ omega arith
     ];
   };
+  order = elim (cases_lt k i) as (λ _. i ≤ k + 1) [
+    | inl h ↦ (let less = (edge_at-order n k l i j p q o b).1 (inl h) in absurd (omega arith))
+    | inr g ↦ omega arith
+  ];
+  below = omega arith;
 }
 
-pub AreRowsOf-none : (n from to : ℕ) (rows : Span) → to ≤ from → AreRowsOf n from to rows
-AreRowsOf-none n from to rows le = record { each = λ x y xy yb ge lt. absurd (omega arith) }
+pub AreRowsOf-none : (n from to : ℕ) → to ≤ from → AreRowsOf n from to (record { first = 0; end = 0 })
+AreRowsOf-none n from to le = record { each = λ x y xy yb ge lt. absurd (omega arith); order = omega arith; below = omega arith }
 
-pub IsReady-copy : (m : Algebra) (copy : CopyState) → IsSettledCopy m copy → IsReady m copy.work.planes copy.work
+pub IsReady-copy : (m : Algebra) (copy : CopyState) → IsOpenCopy m copy → IsReady m copy.work.planes copy.work
 IsReady-copy m copy s = record { calculus = s.calculus; few = planes-le copy.work.planes s.planes; enough = s.enough; planes_are = λ _. copy.work.planes; sets = s.sets }
 
 -- a copy of a network, with some edges queued
@@ -51,8 +57,8 @@ module _ (m : Algebra) (words : List ℕ) (copy : CopyState) (work : Worklist) (
   sets : AreConverses m work
   sets = AreConverses-in_step m copy.slice.nodes words work p.calculus p.network in_step
 
-  IsSettledCopy-queue : IsSettled m copy.rows work → IsSettledCopy m queued
-  IsSettledCopy-queue settled =
+  IsOpenCopy-queue : IsOpenCopy m queued
+  IsOpenCopy-queue =
       let planes = ap (λ (y : Worklist). y.planes) rest in
       record {
         calculus = p.calculus;
@@ -60,53 +66,102 @@ module _ (m : Algebra) (words : List ℕ) (copy : CopyState) (work : Worklist) (
         enough = omega (arith, p.enough, planes);
         tables = subst (λ n. AreBaseTables m n copy.bases) (sym planes) p.tables;
         sets = sets;
-        settled = settled;
+        nodes = λ _. work.nodes;
         rows = subst (λ n. AreRowsOf n copy.slice.from copy.slice.to copy.rows) (sym in_step.nodes) p.rows;
       }
 
   -- those whose set isn't full
   pub IsSettledCopy-begun : IsBegun work (full_of m) work.nodes → IsSettledCopy m queued
-  IsSettledCopy-begun begun = IsSettledCopy-queue (IsSettled-begun m copy.rows work p.calculus sets begun)
+  IsSettledCopy-begun begun = record { is_open = IsOpenCopy-queue; settled = IsSettled-begun m copy.rows work p.calculus sets begun }
 
   -- any, where the network is closed
   pub IsSettledCopy-closed : IsClosed m copy.slice.nodes words → IsSettledCopy m queued
-  IsSettledCopy-closed closed = IsSettledCopy-queue (λ i j k t _ _ _. AreClosed-in_step m copy.slice.nodes words work in_step closed i j k t)
+  IsSettledCopy-closed closed = record { is_open = IsOpenCopy-queue; settled = λ i j k t _ _ _. AreClosed-in_step m copy.slice.nodes words work in_step closed i j k t }
 
--- sets met with words
-pub IsSettledCopy-met : (m : Algebra) (copy : CopyState) (work : Worklist) → IsMet m copy.work work → IsSettledCopy m copy → IsSettledCopy m (record copy { work = work })
-IsSettledCopy-met m copy work p s = record {
+-- a copy of a network is one of some network
+pub IsOpenCopy-taken : (m : Algebra) (words : List ℕ) (copy : CopyState) → IsCopyOf m words copy → IsOpenCopy m copy
+IsOpenCopy-taken m words copy p = record {
+  calculus = p.calculus;
+  planes = p.planes;
+  enough = p.enough;
+  tables = p.tables;
+  sets = AreConverses-in_step m copy.slice.nodes words copy.work p.calculus p.network p.in_step;
+  nodes = p.in_step.nodes;
+  rows = p.rows;
+}
+
+-- sets made smaller
+pub IsOpenCopy-met : (m : Algebra) (copy : CopyState) (work : Worklist) (bases : List ℕ) → IsMet m copy.work work → bases ≡ copy.bases → IsOpenCopy m copy →
+    IsOpenCopy m (record copy { work = work; bases = bases })
+IsOpenCopy-met m copy work bases p same s = record {
   calculus = s.calculus;
   planes = subst IsPlanes (sym p.planes) s.planes;
   enough = omega (arith, s.enough, p.planes);
-  tables = subst (λ n. AreBaseTables m n copy.bases) (sym p.planes) s.tables;
+  tables = rw (p.planes, same) s.tables;
   sets = p.sets;
-  settled = IsSettled-met m copy.rows copy.work work p s.settled;
+  nodes = p.nodes ∙ s.nodes;
   rows = s.rows;
+}
+
+pub IsSettledCopy-met : (m : Algebra) (copy : CopyState) (work : Worklist) → IsMet m copy.work work → IsSettledCopy m copy → IsSettledCopy m (record copy { work = work })
+IsSettledCopy-met m copy work p s = record {
+  is_open = IsOpenCopy-met m copy work copy.bases p (λ _. copy.bases) s.is_open;
+  settled = IsSettled-met m copy.rows copy.work work p s.settled;
+}
+
+-- another queue
+pub IsSweptCopy-none : (m : Algebra) (copy : CopyState) (work : Worklist) → work ≡ record copy.work { queued = work.queued } → IsOpenCopy m copy →
+    IsSweptCopy m (record copy { work = work }) copy.rows.first
+IsSweptCopy-none m copy work rest s = record {
+  is_open =
+      let planes = ap (λ (y : Worklist). y.planes) rest in
+      record {
+        calculus = s.calculus;
+        planes = subst IsPlanes (sym planes) s.planes;
+        enough = omega (arith, s.enough, planes);
+        tables = subst (λ n. AreBaseTables m n copy.bases) (sym planes) s.tables;
+        sets = rw rest (record { within = s.sets.within; converse = s.sets.converse });
+        nodes = ap (λ (y : Worklist). y.nodes) rest ∙ s.nodes;
+        rows = s.rows;
+      };
+  settled = IsSettled-none m copy.rows.first work;
+}
+
+-- a row swept
+pub IsSweptCopy-row : (m : Algebra) (copy : CopyState) (work : Worklist) (bases : List ℕ) (i : ℕ) → IsStep m copy.work work → bases ≡ copy.bases → IsRowSettled m work i →
+    IsSweptCopy m copy i → IsSweptCopy m (record copy { work = work; bases = bases }) (i + 1)
+IsSweptCopy-row m copy work bases i p same row s = record {
+  is_open = IsOpenCopy-met m copy work bases (IsMet-step m copy.work work p) same s.is_open;
+  settled = IsSettled-row m copy.rows.first i work s.is_open.calculus p.sets (IsSettled-met m (record { first = copy.rows.first; end = i }) copy.work work (IsMet-step m copy.work work p) s.settled) row;
 }
 
 -- sets narrowed
 pub IsSettledCopy-refined : (m : Algebra) (copy : CopyState) (work : Worklist) (bases : List ℕ) → IsRefinement m copy.work work → IsSettled m copy.rows work → bases ≡ copy.bases →
     IsSettledCopy m copy → IsSettledCopy m (record copy { work = work; bases = bases })
 IsSettledCopy-refined m copy work bases p settled same s = record {
-  calculus = s.calculus;
-  planes = subst IsPlanes (sym p.planes) s.planes;
-  enough = omega (arith, s.enough, p.planes);
-  tables = rw (p.planes, same) s.tables;
-  sets = p.sets;
+  is_open = record {
+    calculus = s.is_open.calculus;
+    planes = subst IsPlanes (sym p.planes) s.is_open.planes;
+    enough = omega (arith, s.is_open.enough, p.planes);
+    tables = rw (p.planes, same) s.is_open.tables;
+    sets = p.sets;
+    nodes = p.nodes ∙ s.is_open.nodes;
+    rows = s.is_open.rows;
+  };
   settled = settled;
-  rows = s.rows;
 }
 
 -- a copy without queued edges that has the sets of words
-pub IsRangeClosed-copy : (m : Algebra) (copy : CopyState) (words : List ℕ) → copy.work.nodes ≡ copy.slice.nodes → IsSettledCopy m copy →
+pub IsRangeClosed-copy : (m : Algebra) (copy : CopyState) (words : List ℕ) → IsSettledCopy m copy →
     ((i : ℕ) → i < copy.work.nodes → IsIdle copy.work i) → IsStored copy.work.nodes words copy.work copy.work.nodes → IsRangeClosed m copy.slice.nodes words copy.slice.from copy.slice.to
-IsRangeClosed-copy m copy words e s idle stored =
+IsRangeClosed-copy m copy words s idle stored =
     let n = copy.slice.nodes in
-    let in_step : IsInStep m n words copy.work = IsInStep-stored m n words copy.work e s.sets (subst (λ x. IsStored x words copy.work x) e stored) in
+    let e : copy.work.nodes ≡ n = s.is_open.nodes in
+    let in_step : IsInStep m n words copy.work = IsInStep-stored m n words copy.work e s.is_open.sets (subst (λ x. IsStored x words copy.work x) e stored) in
     let closed = AreRowsClosed-idle m copy.rows copy.work s.settled idle in
     record {
       each = λ i k o b from to j t.
-          let row = s.rows.each i k o b from to in
+          let row = s.is_open.rows.each i k o b from to in
           let at = row.from in
           rw (← in_step.sets i k (pair-outer n i j k t), ← in_step.sets i j (pair-first n i j k t), ← in_step.sets j k (pair-second n i j k t))
           (closed i j k (subst (λ x. IsProperTriple x i j k) (sym e) t) (record { first_from = at; second_from = omega arith; lesser_below = inl row.below }));

@@ -3,6 +3,7 @@ pub mod Planes
 pub mod Starts
 pub mod Steps
 pub mod Settled
+pub mod Sweeps
 pub mod Blocks
 pub mod Loads
 pub mod Closures

@@ -28,6 +28,8 @@ pub record CopyState : Type 0 where
 -- the edges of a slice lie in the rows
 pub record AreRowsOf (n from to : ℕ) (rows : Span) : Type 0 where
   pub each : (i k : ℕ) → i < k → k < n → from ≤ edge_at n i k → edge_at n i k < to → IsAmong rows i
+  pub order : rows.first ≤ rows.end
+  pub below : rows.end ≤ n
 
 -- a copy that has the sets of a network
 pub record IsCopyOf (m : Algebra) (words : List ℕ) (copy : CopyState) : Type 0 where
@@ -39,15 +41,25 @@ pub record IsCopyOf (m : Algebra) (words : List ℕ) (copy : CopyState) : Type 0
   pub in_step : IsInStep m copy.slice.nodes words copy.work
   pub rows : AreRowsOf copy.slice.nodes copy.slice.from copy.slice.to copy.rows
 
--- a copy of which each triple of the slice is closed unless one of its two source edges is queued
-pub record IsSettledCopy (m : Algebra) (copy : CopyState) : Type 0 where
+-- a copy that has the sets of some network
+pub record IsOpenCopy (m : Algebra) (copy : CopyState) : Type 0 where
   pub calculus : IsCalculus m
   pub planes : IsPlanes copy.work.planes
   pub enough : m.size ≤ 8 * copy.work.planes
   pub tables : AreBaseTables m copy.work.planes copy.bases
   pub sets : AreConverses m copy.work
-  pub settled : IsSettled m copy.rows copy.work
+  pub nodes : copy.work.nodes ≡ copy.slice.nodes
   pub rows : AreRowsOf copy.slice.nodes copy.slice.from copy.slice.to copy.rows
+
+-- and of which each triple of the slice is closed unless one of its two source edges is queued
+pub record IsSettledCopy (m : Algebra) (copy : CopyState) : Type 0 where
+  pub is_open : IsOpenCopy m copy
+  pub settled : IsSettled m copy.rows copy.work
+
+-- or each triple of the slice's rows before k
+pub record IsSweptCopy (m : Algebra) (copy : CopyState) (k : ℕ) : Type 0 where
+  pub is_open : IsOpenCopy m copy
+  pub settled : IsSettled m (record { first = copy.rows.first; end = k }) copy.work
 
 -- sets only became smaller, and each edge whose set changed is queued
 pub record IsMet (m : Algebra) (old new : Worklist) : Type 0 where

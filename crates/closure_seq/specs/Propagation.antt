@@ -102,6 +102,10 @@ AreRowsClosed m rows work = (i j k : ℕ) → IsProperTriple work.nodes i j k �
 abbrev pub IsSettledAt : Algebra → Worklist → ℕ → ℕ → ℕ → Type 0
 IsSettledAt m work i j k = ¬ IsQueued work i j → ¬ IsQueued work j k → IsClosedAlong m work i j k
 
+-- and so is each triple whose outer pair is of i and a greater node
+abbrev pub IsRowSettled : Algebra → Worklist → ℕ → Type 0
+IsRowSettled m work i = (j k : ℕ) → i < k → IsProperTriple work.nodes i j k → IsSettledAt m work i j k
+
 -- and so is each triple whose outer pair belongs to the rows
 abbrev pub IsSettled : Algebra → Span → Worklist → Type 0
 IsSettled m rows work = (i j k : ℕ) → IsProperTriple work.nodes i j k → IsCharged rows i k → IsSettledAt m work i j k

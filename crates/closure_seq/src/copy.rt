@@ -4,20 +4,26 @@
 //! What that made smaller is noted, triple by triple, so that the same triples narrow the words of the table in the
 //! same order. Notes only propose. Whether the slice is closed is told by a comparison at the end: where no edge is
 //! queued, and the words are the sets of the copy, each triple of the slice is closed.
+//!
+//! A copy is *settled* where each triple of the slice is closed unless one of its source edges is queued. It becomes so
+//! by queueing each edge whose set isn't full, or by a sweep of the rows of the slice, which is less where most edges
+//! are stated. Then edges are taken off the queue.
 
 ghost use Rattle.std.specs.Prelude.{◌≡◌, ◌*◌, ◌<◌, ◌≤◌, length, IsTrue};
 ghost use Rattle.network_words.specs.Edge.{edge_count};
 ghost use Rattle.network_words.specs.declared.TheConstants.{MAX_NODES};
 ghost use Rattle.compose_fast.specs.Planes.{AreBaseTables};
-ghost use Rattle.closure_seq.specs.Propagation.{AreConverses, IsReady, IsRefinement, IsSettled};
+ghost use Rattle.closure_seq.specs.Propagation.{AreConverses, IsReady, IsRefinement, IsStep, IsSettled, IsRowSettled};
 ghost use Rattle.closure_seq.specs.Paths.{IsPlanes};
 ghost use Rattle.closure_seq.specs.Copies.{IsMet};
 
 use crate::loading::{is_stored, load_planes};
 use crate::meeting::meet;
+use crate::order::Proposals;
 use crate::pairs::{Note, PairSets};
 use crate::propagation::propagate_noted;
 use crate::span::{Span, rows_of};
+use crate::sweeping::{Sweep, sweep_row};
 use calculus_table::{Compose, Memory, lawful};
 use compose_fast::Tables;
 use std::alloc::Global;
@@ -69,6 +75,34 @@ fn propagate_planes<C: Compose>(
     }
 }
 
+/// Sweeps the row of `i`, for the number of planes that the sets are kept in. Returns whether no set became empty.
+fn sweep_planes<C: Compose>(
+    pairs: &mut PairSets,
+    tables: &mut Tables,
+    c: &C,
+    i: u32,
+    sweep: Sweep,
+) -> bool
+    requires planes { IsPlanes pairs.old.planes }
+    requires ready { IsReady (C.algebra c.now) pairs.old.planes pairs.old }
+    requires below { i < pairs.old.nodes }
+    requires tables { AreBaseTables (C.algebra c.now) pairs.old.planes tables.old.bases }
+    ensures step { IsStep (C.algebra c.now) pairs.old pairs.new }
+    ensures settled { IsTrue result → sweep ≡ Sweep.Whole → IsRowSettled (C.algebra c.now) pairs.new i }
+    ensures tables { tables.new.bases ≡ tables.old.bases }
+{
+    let planes = pairs.planes();
+    if planes == 1 {
+        sweep_row::<C, 1>(pairs, tables, c, i, sweep).is_ok()
+    } else if planes == 2 {
+        sweep_row::<C, 2>(pairs, tables, c, i, sweep).is_ok()
+    } else if planes == 4 {
+        sweep_row::<C, 4>(pairs, tables, c, i, sweep).is_ok()
+    } else {
+        sweep_row::<C, 8>(pairs, tables, c, i, sweep).is_ok()
+    }
+}
+
 /// A copy of the sets of a network of so many nodes, and a slice of its edges.
 #[derive(Debug, Drop)]
 pub struct SliceCopy {
@@ -94,12 +128,13 @@ impl Model for SliceCopy {
 }
 
 impl SliceCopy {
-    ghost use Rattle.std.specs.Prelude.{◌≡◌, ◌<◌, ◌≤◌, length, IsTrue, IfOk};
+    ghost use Rattle.std.specs.Prelude.{◌≡◌, ◌+◌, ◌<◌, ◌≤◌, length, IsTrue, IfOk};
+    ghost use Rattle.calculus_table.specs.Algebra.{Algebra};
     ghost use Rattle.network_words.specs.Edge.{edge_count};
     ghost use Rattle.network_words.specs.Network.{IsNetwork};
     ghost use Rattle.network_words.specs.Closure.{IsClosed, IsRangeClosed};
     ghost use Rattle.network_words.specs.declared.TheConstants.{MAX_NODES};
-    ghost use Rattle.closure_seq.specs.Copies.{Slice, IsCopyOf, IsSettledCopy};
+    ghost use Rattle.closure_seq.specs.Copies.{Slice, IsCopyOf, IsOpenCopy, IsSettledCopy, IsSweptCopy};
 
     /// Room for copies of networks of so many nodes.
     pub fn new(alloc: Global, nodes: u32) -> Result<SliceCopy, Memory>
@@ -107,9 +142,9 @@ impl SliceCopy {
         requires bounded { nodes ≤ MAX_NODES }
         ensures { IfOk result (λ copy. copy.slice.nodes ≡ nodes) }
     {
-        let mut pairs = PairSets::new(alloc, nodes)?;
-        // an edge takes room for two notes for each node, and a block is left beside that
-        let blocks = (2 * nodes + 255) / 256 + 1;
+        let mut pairs = PairSets::new(alloc, nodes, Proposals::oldest(alloc, nodes)?)?;
+        // as often as the sets of a row can become smaller
+        let blocks = nodes / 4 + 1;
         pairs.make_notes(alloc, blocks as usize)?;
         let tables = Tables::new(alloc)?;
         Ok(SliceCopy {
@@ -138,11 +173,21 @@ impl SliceCopy {
         self.from == from && self.to == to
     }
 
+    /// The rows in which the edges of the slice lie: the first one, and the one after the last.
+    pub fn rows(&self) -> (u32, u32)
+        ensures first { result.0 ≡ self.now.rows.first }
+        ensures end { result.1 ≡ self.now.rows.end }
+    {
+        (self.rows.first, self.rows.end)
+    }
+
     /// Takes over the slice of the edges from the number `from` up to but without `to`, and the words of a network.
-    fn take_over<C: Compose>(&mut self, c: &C, words: &[u64], from: u32, to: u32)
+    /// Which edges are queued isn't said.
+    pub fn take_over<C: Compose>(&mut self, c: &C, words: &[u64], from: u32, to: u32)
         requires network { IsNetwork (C.algebra c.now) self.old.slice.nodes words.now }
         requires below { to ≤ edge_count self.old.slice.nodes }
         ensures copy { IsCopyOf (C.algebra c.now) words.now self.new }
+        ensures is_open { IsOpenCopy (C.algebra c.now) self.new }
         ensures slice { self.new.slice ≡ record { nodes = self.old.slice.nodes; from = from; to = to } }
     {
         self.rows = rows_of(self.pairs.nodes(), from, to);
@@ -153,7 +198,8 @@ impl SliceCopy {
         load_planes(&mut self.pairs, &mut self.tables, words, c);
     }
 
-    /// Takes over the words of a network, to close the edges from the number `from` up to but without `to`.
+    /// Takes over the words of a network, to close the edges from the number `from` up to but without `to`. Each edge
+    /// whose set isn't full is queued.
     pub fn begin<C: Compose>(&mut self, c: &C, words: &[u64], from: u32, to: u32)
         requires network { IsNetwork (C.algebra c.now) self.old.slice.nodes words.now }
         requires below { to ≤ edge_count self.old.slice.nodes }
@@ -177,12 +223,37 @@ impl SliceCopy {
         self.pairs.clear();
     }
 
-    /// Takes over the words where they are less than the copy's sets.
-    pub fn catch_up<C: Compose>(&mut self, c: &C, words: &[u64])
-        requires settled { IsSettledCopy (C.algebra c.now) self.old }
-        requires length_is { length words.now ≡ edge_count self.old.slice.nodes }
-        ensures settled { IsSettledCopy (C.algebra c.now) self.new }
+    /// Takes every edge off the queue, so that the rows can be swept from the first one on.
+    pub fn forget_queue(&mut self)
+        ensures swept { (m : Algebra) → IsOpenCopy m self.old → IsSweptCopy m self.new self.new.rows.first }
         ensures slice { self.new.slice ≡ self.old.slice }
+        ensures rows { self.new.rows ≡ self.old.rows }
+    {
+        self.pairs.clear();
+    }
+
+    /// Narrows the pairs of `i` with greater nodes along the third nodes of a sweep. Returns whether no set became
+    /// empty. Each edge whose set becomes smaller is queued.
+    pub fn sweep_row<C: Compose>(&mut self, c: &C, i: u32, sweep: Sweep) -> bool
+        requires is_open { IsOpenCopy (C.algebra c.now) self.old }
+        requires below { i < self.old.rows.end }
+        ensures is_open { IsOpenCopy (C.algebra c.now) self.new }
+        ensures swept { IsTrue result → sweep ≡ Sweep.Whole → IsSweptCopy (C.algebra c.now) self.old i →
+            IsSweptCopy (C.algebra c.now) self.new (i + 1) }
+        ensures slice { self.new.slice ≡ self.old.slice }
+        ensures rows { self.new.rows ≡ self.old.rows }
+    {
+        sweep_planes(&mut self.pairs, &mut self.tables, c, i, sweep)
+    }
+
+    /// Takes over the words where they are less than the copy's sets, and queues their edges.
+    pub fn catch_up<C: Compose>(&mut self, c: &C, words: &[u64])
+        requires is_open { IsOpenCopy (C.algebra c.now) self.old }
+        requires length_is { length words.now ≡ edge_count self.old.slice.nodes }
+        ensures is_open { IsOpenCopy (C.algebra c.now) self.new }
+        ensures settled { IsSettledCopy (C.algebra c.now) self.old → IsSettledCopy (C.algebra c.now) self.new }
+        ensures slice { self.new.slice ≡ self.old.slice }
+        ensures rows { self.new.rows ≡ self.old.rows }
     {
         self.since = self.pairs.taken();
         meet_planes(&mut self.pairs, words, c);

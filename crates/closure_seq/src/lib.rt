@@ -26,6 +26,7 @@ mod pairs;
 mod path;
 mod propagation;
 mod span;
+mod sweeping;
 mod work;
 
 pub use closing::{close, close_with};
@@ -33,4 +34,5 @@ pub use copy::SliceCopy;
 pub use levels::Change;
 pub use pairs::Note;
 pub use path::ClosedPath;
+pub use sweeping::Sweep;
 pub use work::Work;

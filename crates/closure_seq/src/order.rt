@@ -1,7 +1,10 @@
-//! An order in which queued edges are proposed: those with the fewest base relations first, since they restrict most
-//! (van Beek and Manchak 1996), and among those the one that has waited longest: so what is given is looked at before
-//! what was derived from it. Nothing is promised of the order, and nothing rests on it but the time that closing takes:
-//! who takes a proposal looks whether that edge is queued.
+//! The order in which queued edges are proposed. Nothing is promised of it, and nothing rests on it but the time that
+//! closing takes: who takes a proposal looks whether that edge is queued.
+//!
+//! - [`Proposals::Least`]: those with the fewest base relations first, since they restrict most (van Beek and Manchak
+//!   1996), and among those the one that has waited longest: so what is given is looked at before what was derived from
+//!   it.
+//! - [`Proposals::Oldest`]: the one that has waited longest, where few are queued. It takes a quarter of the room.
 //!
 //! The place of an edge is `i * width + j`, where the width is the least power of two of 16 and more that the nodes
 //! fit in: so the room for few nodes is small, and a place is taken apart without a division.
@@ -12,8 +15,8 @@ use calculus_table::Memory;
 use compose_fast::filled;
 use std::alloc::Global;
 
-/// No place. No edge has this place, since it would be of a node with itself. With 255 nodes and more there is a link of
-/// this place all the same, so that it is asked for by itself.
+/// No place. No edge has this place, since it would be of a node with itself. With 255 nodes and more there is a link
+/// of this place all the same, so that it is asked for by itself.
 const NONE: u16 = 65535;
 
 /// No list.
@@ -183,5 +186,112 @@ impl Order {
         let shift = self.shift % 32;
         let i = place >> shift;
         Some((i, place ^ (i << shift)))
+    }
+}
+
+/// Places in the order in which they came, in a ring.
+#[derive(Debug, Drop)]
+pub(crate) struct Ring {
+    places: Vec<u16>,
+    head: usize,
+    tail: usize,
+}
+
+impl Ring {
+    /// An empty ring with room for each edge between so many nodes.
+    fn new(alloc: Global, nodes: u32) -> Result<Ring, Memory> {
+        Ok(Ring {
+            places: filled(alloc, 0, nodes as usize / 2 + 1)?,
+            head: 0,
+            tail: 0,
+        })
+    }
+
+    /// The index after this one.
+    #[inline(always)]
+    fn after(&self, index: usize) -> usize {
+        let next = index.wrapping_add(1);
+        if next < self.places.len() { next } else { 0 }
+    }
+
+    /// Puts an edge at the end.
+    #[inline(always)]
+    fn put(&mut self, i: u32, j: u32) {
+        if let Some(place) = self.places.get_mut(self.tail) {
+            *place = ((i << 8 | j) & 65535) as u16;
+        }
+        self.tail = self.after(self.tail);
+    }
+
+    /// Takes the edge that came first.
+    #[inline(always)]
+    fn take(&mut self) -> Option<(u32, u32)> {
+        if self.head == self.tail {
+            return None;
+        }
+        let place = u32::from(*self.places.get(self.head)?);
+        self.head = self.after(self.head);
+        Some((place >> 8, place & 255))
+    }
+}
+
+/// Which of the queued edges is proposed next.
+#[derive(Debug, Drop)]
+pub(crate) enum Proposals {
+    /// The one with the fewest base relations.
+    Least(Order),
+    /// The one that has waited longest.
+    Oldest(Ring),
+}
+
+impl Proposals {
+    /// Proposes the edges between so many nodes that have the fewest base relations first.
+    pub(crate) fn least(alloc: Global, nodes: u32) -> Result<Proposals, Memory>
+        requires { nodes ≤ 256 }
+    {
+        Ok(Proposals::Least(Order::new(alloc, nodes)?))
+    }
+
+    /// Proposes the edges between so many nodes that have waited longest first.
+    pub(crate) fn oldest(alloc: Global, nodes: u32) -> Result<Proposals, Memory> {
+        Ok(Proposals::Oldest(Ring::new(alloc, nodes)?))
+    }
+
+    /// Whether no edge is proposed.
+    pub(crate) fn is_empty(&self) -> bool {
+        match self {
+            Proposals::Least(order) => order.is_empty(),
+            Proposals::Oldest(ring) => ring.head == ring.tail,
+        }
+    }
+
+    /// Proposes no edge.
+    pub(crate) fn clear(&mut self) {
+        match self {
+            Proposals::Least(order) => order.clear(),
+            Proposals::Oldest(ring) => ring.head = ring.tail,
+        }
+    }
+
+    /// Proposes the edge from `i` to `j`, which has so many base relations, and may have been queued before.
+    #[inline(always)]
+    pub(crate) fn put(&mut self, i: u32, j: u32, members: u32, is_queued: bool) {
+        match self {
+            Proposals::Least(order) => order.put(i, j, members),
+            Proposals::Oldest(ring) => {
+                if !is_queued {
+                    ring.put(i, j);
+                }
+            }
+        }
+    }
+
+    /// The edge that is proposed next, which isn't proposed again.
+    #[inline(always)]
+    pub(crate) fn take(&mut self) -> Option<(u32, u32)> {
+        match self {
+            Proposals::Least(order) => order.take(),
+            Proposals::Oldest(ring) => ring.take(),
+        }
     }
 }

@@ -5,12 +5,12 @@
 //! need. The set of a pair with itself is that of the identity, which is within every composition of a set with its
 //! converse.
 //!
-//! An edge is queued where its mark says so. The order only proposes which of them comes next; where its proposal
-//! isn't queued, the first mark is taken.
+//! An edge is queued where its mark says so. Proposals only tell which of them might come next; where the edge isn't
+//! queued, the first mark is taken.
 
 ghost use Rattle.std.specs.Prelude.{◌≡◌, ℕ, ◌+◌, ◌*◌, ◌<◌, ◌≤◌, slice_index};
 
-use crate::order::Order;
+use crate::order::Proposals;
 use calculus_table::{Memory, Rel};
 use compose_fast::{clear_to, filled, put_set, with_room};
 use std::alloc::Global;
@@ -34,7 +34,7 @@ pub(crate) struct PairSets {
     bytes: Vec<u8>,
     queued: Vec<bool>,
     waiting: usize,
-    order: Order,
+    proposals: Proposals,
     taken: u64,
     notes: Vec<Note>,
     noted: usize,
@@ -86,8 +86,8 @@ impl PairSets {
     ghost use Rattle.closure_seq.specs.Worklist.{Worklist, IsSized, AreBytesOf, IsWaiting, IsIdle, IsQueued};
     ghost use Rattle.closure_seq.specs.Worklist.{IsBegun, set_of, edge_place};
 
-    /// Room for so many nodes.
-    pub(crate) fn new(alloc: Global, nodes: u32) -> Result<PairSets, Memory>
+    /// Room for so many nodes, with proposals for as many.
+    pub(crate) fn new(alloc: Global, nodes: u32, proposals: Proposals) -> Result<PairSets, Memory>
         requires some { 0 < nodes }
         requires bounded { nodes ≤ MAX_NODES }
         ensures { IfOk result (λ work. work.nodes ≡ nodes) }
@@ -95,7 +95,6 @@ impl PairSets {
         let sets = filled(alloc, Rel::EMPTY, nodes as usize)?;
         let bytes = with_room(alloc, 8 * nodes as usize)?;
         let queued = filled(alloc, false, nodes as usize)?;
-        let order = Order::new(alloc, nodes)?;
         Ok(PairSets {
             nodes,
             planes: 0,
@@ -104,7 +103,7 @@ impl PairSets {
             bytes,
             queued,
             waiting: 0,
-            order,
+            proposals,
             taken: 0,
             notes: Vec::new(alloc),
             noted: 0,
@@ -220,9 +219,10 @@ impl PairSets {
         let _ = &self.nodes;
         let (low, high) = if i < j { (i, j) } else { (j, i) };
         let place = (256 * low + high) as usize;
-        self.waiting += if self.queued[place] { 0 } else { 1 };
+        let is_queued = self.queued[place];
+        self.waiting += if is_queued { 0 } else { 1 };
         self.queued[place] = true;
-        self.order.put(low, high, members);
+        self.proposals.put(low, high, members, is_queued);
     }
 
     /// Whether the edge from `i` to `j` is queued.
@@ -234,13 +234,13 @@ impl PairSets {
         self.queued[(256 * i + j) as usize]
     }
 
-    /// The edge that the order proposes, if it is queued.
+    /// The edge that is proposed, if it is queued.
     #[inline(always)]
     fn proposed(&mut self) -> Option<(u32, u32)>
         ensures same { self.new ≡ self.old }
         ensures edge { IfSome result (λ e. IsWaiting self.old e.0 e.1) }
     {
-        let (i, j) = self.order.take()?;
+        let (i, j) = self.proposals.take()?;
         if i < j && j < self.nodes && self.is_queued(i, j) {
             Some((i, j))
         } else {
@@ -278,7 +278,7 @@ impl PairSets {
         None
     }
 
-    /// An edge that is queued: the one that the order proposes, or where that fails the first.
+    /// An edge that is queued: the one that is proposed, or where that isn't queued the first.
     #[inline(always)]
     fn next_queued(&mut self) -> Option<(u32, u32)>
         ensures same { self.new ≡ self.old }
@@ -345,12 +345,12 @@ impl PairSets {
         ensures rest { self.new ≡ record self.old { queued = self.new.queued } }
         ensures idle { (i : ℕ) → i < self.new.nodes → IsIdle self.new i }
     {
-        if self.waiting == 0 && self.order.is_empty() {
+        if self.waiting == 0 && self.proposals.is_empty() {
             return;
         }
         self.waiting = 0;
         self.queued.fill(false);
-        self.order.clear();
+        self.proposals.clear();
     }
 
     /// Queues the edges from `i` to greater nodes whose set isn't `full`.

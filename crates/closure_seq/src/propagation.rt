@@ -213,6 +213,38 @@ fn propagate_block<C: Compose, const P: usize>(
     narrow_lanes::<C, P>(work, tables, c, i, j, span, block, a, gaps)
 }
 
+/// Narrows the set of each pair `(i, k)` with `k` in the range along `j`.
+#[inline(always)]
+pub(crate) fn propagate_span<C: Compose, const P: usize>(
+    work: &mut PairSets,
+    tables: &mut Tables,
+    c: &C,
+    span: Span,
+    i: u32,
+    j: u32,
+) -> Result<(), Emptied>
+    requires ready { IsReady (C.algebra c.now) P work.old }
+    requires proper { IsProperPair work.old.nodes i j }
+    requires span { span.end ≤ work.old.nodes }
+    requires tables { AreBaseTables (C.algebra c.now) P tables.old.bases }
+    ensures step { IsStep (C.algebra c.now) work.old work.new }
+    ensures settled { OnOk result ((k : ℕ) → IsProperTriple work.old.nodes i j k → IsAmong span k →
+        IsSettledAt (C.algebra c.now) work.new i j k) }
+    ensures empty { OnErr result (HasEmpty work.new) }
+    ensures tables { tables.new.bases ≡ tables.old.bases }
+{
+    if span.end <= span.first {
+        return Ok(());
+    }
+    let _nodes = work.nodes();
+    let a = work.set(i, j);
+    tables.take::<C, P>(c, a);
+    for block in span.first / 16..(span.end + 15) / 16 {
+        propagate_block::<C, P>(work, tables, c, i, j, span, block, a)?;
+    }
+    Ok(())
+}
+
 /// Narrows the set of each pair `(i, k)` that belongs to the rows along `j`.
 #[inline(always)]
 fn propagate_from<C: Compose, const P: usize>(
@@ -233,15 +265,7 @@ fn propagate_from<C: Compose, const P: usize>(
     ensures tables { tables.new.bases ≡ tables.old.bases }
 {
     let span = charged_with(rows, i, work.nodes());
-    if span.end <= span.first {
-        return Ok(());
-    }
-    let a = work.set(i, j);
-    tables.take::<C, P>(c, a);
-    for block in span.first / 16..(span.end + 15) / 16 {
-        propagate_block::<C, P>(work, tables, c, i, j, span, block, a)?;
-    }
-    Ok(())
+    propagate_span::<C, P>(work, tables, c, span, i, j)
 }
 
 /// Narrows the pairs that belong to the rows along the edge between `i` and `j`, both ways.

@@ -1,3 +1,4 @@
+use crate::order::Proposals;
 use crate::pairs::PairSets;
 use calculus_table::Memory;
 use compose_fast::Tables;
@@ -29,7 +30,7 @@ impl Work {
         requires bounded { nodes ≤ MAX_NODES }
         ensures { IfOk result (λ work. work.nodes ≡ nodes) }
     {
-        let pairs = PairSets::new(alloc, nodes)?;
+        let pairs = PairSets::new(alloc, nodes, Proposals::least(alloc, nodes)?)?;
         let tables = Tables::new(alloc)?;
         Ok(Work { pairs, tables })
     }

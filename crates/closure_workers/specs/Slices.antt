@@ -3,7 +3,7 @@ use Rattle.std.specs.Prelude.{◌≡◌, ℕ, ◌<◌, ◌≤◌, ◌⊎◌, Boo
 use Rattle.calculus_table.specs.Algebra.{Algebra}
 use Rattle.network_words.specs.Edge.{edge_at}
 use Rattle.network_words.specs.Closure.{IsPairClosed, IsRangeClosed}
-use Rattle.closure_seq.specs.Copies.{CopyState, IsSettledCopy}
+use Rattle.closure_seq.specs.Copies.{CopyState, IsOpenCopy, IsSettledCopy}
 use Rattle.edge_table.specs.Opening.{PassState}
 use Rattle.edge_table.specs.Passes.{ReadsAll}
 
@@ -29,9 +29,10 @@ pub record Looks (P : List ℕ → Type 0) (old new : PassState) (less : Bool) :
 abbrev pub IsHeld : Algebra → Option CopyState → Type 0
 IsHeld m held = IfSome held (IsSettledCopy m)
 
--- a copy that is settled for this slice
-pub record IsBegun (m : Algebra) (n from to : ℕ) (copy : CopyState) : Type 0 where
-  pub settled : IsSettledCopy m copy
+-- a copy for this slice, which may be settled
+pub record IsBegun (m : Algebra) (n from to : ℕ) (copy : CopyState) (is_settled : Bool) : Type 0 where
+  pub is_open : IsOpenCopy m copy
+  pub settled : is_settled ≡ true → IsSettledCopy m copy
   pub nodes : copy.slice.nodes ≡ n
   pub from_is : copy.slice.from ≡ from
   pub to_is : copy.slice.to ≡ to

@@ -1,7 +1,8 @@
 //! A slice of the edges, closed on a copy of what the pass has seen.
 //!
-//! The copy closes the slice by propagation, as a network is closed on one thread, and notes each triple along which
-//! it made a set smaller. The pass narrows the words of the table along these triples in the same order, so that it
+//! Where most edges are stated the copy sweeps the rows of the slice first; else it queues those edges. Then it closes
+//! the slice by propagation, as a network is closed on one thread, and notes each triple along which it made a set
+//! smaller. The pass narrows the words of the table along these triples in the same order, so that it
 //! has then seen what the copy has, or less where others narrowed. When the copy has nothing left to look at, the
 //! pass reads every word again. Where that brings nothing new, and the words are the copy's sets, the slice is closed;
 //! else the copy takes over what became less, and looks only at the triples of these edges.
@@ -20,12 +21,13 @@ ghost use Rattle.network_words.specs.Network.{IsNetwork};
 ghost use Rattle.network_words.specs.Closure.{IsRangeClosed};
 ghost use Rattle.edge_table.specs.Opening.{IsPassOf, algebra_of};
 ghost use Rattle.edge_table.specs.Passes.{ReadsAll};
-ghost use Rattle.closure_seq.specs.Copies.{IsSettledCopy};
+ghost use Rattle.closure_seq.specs.Copies.{IsOpenCopy, IsSettledCopy};
 ghost use Rattle.closure_workers.specs.Slices.{HasClash, IsSliceClosed, IsHeld, IsBegun};
 
+use crate::pieces::is_dense;
 use crate::slices::{is_clash, narrow_along};
 use calculus_table::Compose;
-use closure_seq::{Note, SliceCopy};
+use closure_seq::{Note, SliceCopy, Sweep};
 use edge_table::{OpenNet, Pass, Snapshot};
 
 /// The most turns that are taken on a copy.
@@ -83,6 +85,104 @@ fn narrow_noted<C: Compose>(
     }
 }
 
+/// Narrows the words as the copy was narrowed since its notes were forgotten, and forgets them.
+fn follow<C: Compose>(
+    table: &OpenNet,
+    pass: &mut Pass,
+    c: &C,
+    snap: &mut Snapshot,
+    copy: &mut SliceCopy,
+)
+    requires pass { IsPassOf table.now pass.old }
+    requires calculus { C.algebra c.now ≡ algebra_of table.now.opening }
+    requires snap { snap.old ≡ pass.old.actor.seen }
+    ensures pass { IsPassOf table.now pass.new }
+    ensures snap { snap.new ≡ pass.new.actor.seen }
+    ensures reads { ReadsAll pass.old pass.new }
+    ensures copy { copy.new ≡ copy.old }
+{
+    narrow_noted(table, pass, c, snap, copy.notes());
+    copy.forget_notes();
+}
+
+/// Sweeps the rows of the slice on the copy, and narrows the words as it did after each row. Returns whether no set of
+/// the copy became empty.
+fn sweep_rows<C: Compose>(
+    table: &OpenNet,
+    pass: &mut Pass,
+    c: &C,
+    snap: &mut Snapshot,
+    copy: &mut SliceCopy,
+    sweep: Sweep,
+) -> bool
+    requires pass { IsPassOf table.now pass.old }
+    requires calculus { C.algebra c.now ≡ algebra_of table.now.opening }
+    requires snap { snap.old ≡ pass.old.actor.seen }
+    requires is_open { IsOpenCopy (C.algebra c.now) copy.old }
+    ensures pass { IsPassOf table.now pass.new }
+    ensures reads { ReadsAll pass.old pass.new }
+    ensures snap { snap.new ≡ pass.new.actor.seen }
+    ensures is_open { IsOpenCopy (C.algebra c.now) copy.new }
+    ensures settled { result ≡ true → sweep ≡ Sweep.Whole → IsSettledCopy (C.algebra c.now) copy.new }
+    ensures slice { copy.new.slice ≡ copy.old.slice }
+{
+    copy.forget_queue();
+    let (first, end) = copy.rows();
+    for i in first..end {
+        let going_on = copy.sweep_row(c, i, sweep);
+        follow(table, pass, c, snap, copy);
+        if !going_on {
+            return false;
+        }
+    }
+    true
+}
+
+/// Sweeps the slice: along the sets of few base relations, which restrict most, and then along all, with what others
+/// made less meanwhile. Returns whether no set of the copy became empty.
+fn sweep_slice<C: Compose>(
+    table: &OpenNet,
+    pass: &mut Pass,
+    c: &C,
+    snap: &mut Snapshot,
+    copy: &mut SliceCopy,
+    times: u32,
+) -> bool
+    requires pass { IsPassOf table.now pass.old }
+    requires calculus { C.algebra c.now ≡ algebra_of table.now.opening }
+    requires snap { snap.old ≡ pass.old.actor.seen }
+    requires length_is { length snap.old ≡ edge_count table.now.opening.nodes }
+    requires is_open { IsOpenCopy (C.algebra c.now) copy.old }
+    requires nodes { copy.old.slice.nodes ≡ table.now.opening.nodes }
+    ensures pass { IsPassOf table.now pass.new }
+    ensures reads { ReadsAll pass.old pass.new }
+    ensures snap { snap.new ≡ pass.new.actor.seen }
+    ensures is_open { IsOpenCopy (C.algebra c.now) copy.new }
+    ensures settled { result ≡ true → IsSettledCopy (C.algebra c.now) copy.new }
+    ensures slice { copy.new.slice ≡ copy.old.slice }
+{
+    if !sweep_rows(table, pass, c, snap, copy, Sweep::First) {
+        return false;
+    }
+    if times > 0 && table.refresh_again(pass, snap) {
+        copy.catch_up(c, snap.words());
+    }
+    sweep_rows(table, pass, c, snap, copy, Sweep::Whole)
+}
+
+/// What a set of the copy that became empty comes to.
+fn after_empty(nodes: u32, words: &[u64]) -> Turn
+    ensures clash { result ≡ Turn.Clash → HasClash nodes words.now }
+    ensures not_closed { result ≢ Turn.Closed }
+    ensures unknown { result ≢ Turn.Clash → result ≡ Turn.Unknown }
+{
+    if is_clash(nodes, words) {
+        Turn::Clash
+    } else {
+        Turn::Unknown
+    }
+}
+
 /// Reads every word again, up to so many times until the pass has seen less. Returns whether it has.
 fn read_again(table: &OpenNet, pass: &mut Pass, snap: &mut Snapshot, times: u32) -> bool
     requires pass { IsPassOf table.now pass.old }
@@ -128,14 +228,9 @@ fn take_turn<C: Compose>(
     ensures slice { copy.new.slice ≡ copy.old.slice }
 {
     let settled = copy.close_rows(c);
-    narrow_noted(table, pass, c, snap, copy.notes());
-    copy.forget_notes();
+    follow(table, pass, c, snap, copy);
     if !settled {
-        return if is_clash(table.nodes(), snap.words()) {
-            Turn::Clash
-        } else {
-            Turn::Unknown
-        };
+        return after_empty(table.nodes(), snap.words());
     }
     let idle = copy.is_idle();
     if !idle && (times < 2 || !copy.is_due()) {
@@ -184,8 +279,25 @@ fn take_turns<C: Compose>(
     Turn::Unknown
 }
 
-/// A copy of the snapshot for the slice: the one that is held, with what became less since if it is for the slice; else
-/// the one that the snapshot has room for.
+/// Takes the words over into the copy, for the slice. Where most edges are stated the slice is then to be swept; else
+/// the edges whose set isn't full are queued, so that the copy is settled. Returns whether it is.
+fn begin_copy<C: Compose>(c: &C, words: &[u64], copy: &mut SliceCopy, from: u32, to: u32) -> bool
+    requires network { IsNetwork (C.algebra c.now) copy.old.slice.nodes words.now }
+    requires below { to ≤ edge_count copy.old.slice.nodes }
+    ensures is_open { IsOpenCopy (C.algebra c.now) copy.new }
+    ensures settled { result ≡ true → IsSettledCopy (C.algebra c.now) copy.new }
+    ensures slice { copy.new.slice ≡ record { nodes = copy.old.slice.nodes; from = from; to = to } }
+{
+    if is_dense(words, c.full()) {
+        copy.take_over(c, words, from, to);
+        return false;
+    }
+    copy.begin(c, words, from, to);
+    true
+}
+
+/// A copy of the snapshot for the slice, and whether it is settled: the one that is held, with what became less since
+/// if it is for the slice; else the one that the snapshot has room for.
 fn begun<C: Compose>(
     c: &C,
     snap: &mut Snapshot,
@@ -193,30 +305,61 @@ fn begun<C: Compose>(
     nodes: u32,
     from: u32,
     to: u32,
-) -> Option<SliceCopy>
+) -> Option<(SliceCopy, bool)>
     requires network { IsNetwork (C.algebra c.now) nodes snap.old }
     requires held { IsHeld (C.algebra c.now) held.old }
     requires below { to ≤ edge_count nodes }
     ensures snap { snap.new ≡ snap.old }
     ensures held { IsHeld (C.algebra c.now) held.new }
-    ensures begun { IfSome result (IsBegun (C.algebra c.now) nodes from to) }
+    ensures begun { IfSome result (λ r. IsBegun (C.algebra c.now) nodes from to r.0 r.1) }
 {
     if let Some(mut copy) = held.take()
         && copy.nodes() == nodes
     {
         if copy.is_for(from, to) {
             copy.catch_up(c, snap.words());
-            return Some(copy);
+            return Some((copy, true));
         }
-        copy.begin(c, snap.words(), from, to);
-        return Some(copy);
+        let is_settled = begin_copy(c, snap.words(), &mut copy, from, to);
+        return Some((copy, is_settled));
     }
     let mut copy = snap.take_copy()?;
     if copy.nodes() != nodes {
         return None;
     }
-    copy.begin(c, snap.words(), from, to);
-    Some(copy)
+    let is_settled = begin_copy(c, snap.words(), &mut copy, from, to);
+    Some((copy, is_settled))
+}
+
+/// Closes the slice of a copy, which is swept first if it isn't settled.
+fn close_copy<C: Compose>(
+    table: &OpenNet,
+    pass: &mut Pass,
+    c: &C,
+    snap: &mut Snapshot,
+    copy: &mut SliceCopy,
+    is_settled: bool,
+    times: u32,
+) -> Turn
+    requires pass { IsPassOf table.now pass.old }
+    requires calculus { C.algebra c.now ≡ algebra_of table.now.opening }
+    requires snap { snap.old ≡ pass.old.actor.seen }
+    requires length_is { length snap.old ≡ edge_count table.now.opening.nodes }
+    requires is_open { IsOpenCopy (C.algebra c.now) copy.old }
+    requires settled { is_settled ≡ true → IsSettledCopy (C.algebra c.now) copy.old }
+    requires nodes { copy.old.slice.nodes ≡ table.now.opening.nodes }
+    ensures pass { IsPassOf table.now pass.new }
+    ensures reads { ReadsAll pass.old pass.new }
+    ensures snap { snap.new ≡ pass.new.actor.seen }
+    ensures closed { result ≡ Turn.Closed → IsRangeClosed (C.algebra c.now) table.now.opening.nodes snap.new
+        copy.old.slice.from copy.old.slice.to }
+    ensures clash { result ≡ Turn.Clash → HasClash table.now.opening.nodes snap.new }
+    ensures settled { result ≡ Turn.Closed → IsSettledCopy (C.algebra c.now) copy.new }
+{
+    if !is_settled && !sweep_slice(table, pass, c, snap, copy, times) {
+        return after_empty(table.nodes(), snap.words());
+    }
+    take_turns(table, pass, c, snap, copy, times)
 }
 
 /// Closes the slice on a copy, and holds the copy if that tells that the slice is closed. Returns whether the slice is
@@ -244,10 +387,10 @@ pub(crate) fn close_on_copy<C: Compose>(
     ensures closed { result ≡ true →
         IsSliceClosed (C.algebra c.now) table.now.opening.nodes snap.new from to }
 {
-    let Some(mut copy) = begun(c, snap, held, table.nodes(), from, to) else {
+    let Some((mut copy, is_settled)) = begun(c, snap, held, table.nodes(), from, to) else {
         return false;
     };
-    match take_turns(table, pass, c, snap, &mut copy, times) {
+    match close_copy(table, pass, c, snap, &mut copy, is_settled, times) {
         Turn::Closed => {
             *held = Some(copy);
             true

@@ -5,6 +5,7 @@ ghost use Rattle.std.specs.List.{All};
 ghost use Rattle.calculus_table.specs.Algebra.{Algebra};
 ghost use Rattle.calculus_table.specs.Composition.{full_of};
 ghost use Rattle.network_words.specs.Edge.{edge_count};
+ghost use Rattle.network_words.specs.declared.TheConstants.{MAX_NODES};
 ghost use Rattle.network_words.specs.Network.{Refines};
 ghost use Rattle.narrow_core.specs.Actor.{fresh};
 ghost use Rattle.edge_table.specs.Opening.{IsPassOf, algebra_of};
@@ -12,9 +13,10 @@ ghost use Rattle.closure_workers.specs.Slices.{IsHeld};
 ghost use Rattle.closure_workers.specs.Pieces.{IsPieceOf, HasRun, AreDealt, AreHeld, IsBetween, HasSeen};
 
 use crate::slices::close_slice_with;
-use calculus_table::{Compose, Memory};
+use calculus_table::{Compose, Memory, Rel};
 use closure_seq::SliceCopy;
 use edge_table::{OpenNet, Pass, Snapshot};
+use network_words::edge_between;
 use qsr_outside::Gate;
 use std::alloc::Global;
 
@@ -38,23 +40,60 @@ const TIMES: u32 = 2;
 const SHARED: u64 = 500_000;
 
 /// Whether it pays to share the edges among so many nodes out among workers, over a calculus of so many base relations.
-/// Each worker takes every edge that becomes smaller off a queue of its own, and composes again what it found. So sharing
-/// pays only where looking along an edge takes long: where the rows are long, and composing one takes long, which grows
-/// with the square of the number of base relations.
+/// Each worker takes every edge that becomes smaller off a queue of its own, and composes again what it found. So
+/// sharing pays only where looking along an edge takes long: where the rows are long, and composing one takes long,
+/// which grows with the square of the number of base relations.
 pub fn is_shared(nodes: u32, size: u32) -> bool {
     let size = u64::from(size);
     u64::from(nodes).saturating_mul(size.saturating_mul(size)) >= SHARED
 }
 
-/// Where a slice ends that begins at the edge `from`, where so many workers are left for the edges from there on.
-pub fn slice_end(edges: u32, from: u32, left: u32) -> u32
+/// Whether most of these sets are less than `full`.
+pub(crate) fn is_dense(words: &[u64], full: Rel) -> bool {
+    let full = full.word();
+    let mut lesser: usize = 0;
+    for word in words {
+        if *word != full {
+            lesser = lesser.wrapping_add(1);
+        }
+    }
+    lesser > words.len() / 2
+}
+
+/// What sweeping the rows before `i` takes, in thirty-seconds of a block of 16 nodes: a row has a block for each 16
+/// greater nodes, and takes four blocks beside them.
+fn cost_before(nodes: u32, i: u32) -> u32
+    requires few { nodes ≤ MAX_NODES }
+    requires row { i ≤ nodes }
+{
+    i * (128 + 2 * nodes - i)
+}
+
+/// Where a slice ends that begins at the edge `from`, where so many workers are left for the edges from there on: at
+/// the end of the first row by which it has its part of the work.
+pub fn slice_end(nodes: u32, edges: u32, from: u32, left: u32) -> u32
+    requires few { nodes ≤ MAX_NODES }
     requires some { 0 < left }
     requires below { from ≤ edges }
     ensures order { from ≤ result }
     ensures below { result ≤ edges }
     ensures last { left ≡ 1 → result ≡ edges }
 {
-    from + (edges - from) / left
+    if left == 1 || nodes < 2 {
+        return edges;
+    }
+    let all = cost_before(nodes, nodes);
+    let mut begin = 0;
+    for i in 0..nodes - 1 {
+        let end = edge_between(nodes, i, nodes - 1).saturating_add(1);
+        let cost = cost_before(nodes, i + 1);
+        if end <= from {
+            begin = cost;
+        } else if cost.saturating_sub(begin) >= all.saturating_sub(begin) / left {
+            return end.min(edges).max(from);
+        }
+    }
+    edges
 }
 
 /// A piece over a slice.
@@ -79,11 +118,7 @@ fn piece_of(
     ensures from { IfOk result (λ piece. piece.from ≡ from) }
     ensures to { IfOk result (λ piece. piece.to ≡ to) }
 {
-    let snap = if held.is_some() || from == to {
-        Snapshot::plain(alloc, edges)?
-    } else {
-        Snapshot::new(alloc, edges)?
-    };
+    let snap = Snapshot::plain(alloc, edges)?;
     let times = if to - from < edges { TIMES } else { 0 };
     Ok(Piece {
         pass,
@@ -134,7 +169,7 @@ pub(crate) fn deal(
     let mut rest = pass;
     let mut from = 0;
     for number in 0..count {
-        let to = slice_end(edges, from, count - number);
+        let to = slice_end(table.nodes(), edges, from, count - number);
         let (kept, given) = table.split(rest, 1);
         rest = kept;
         let held = next_held(helds);
@@ -147,8 +182,10 @@ pub(crate) fn deal(
     Ok((rest, pieces))
 }
 
-/// Closes the slice of a piece, between the two points of the gate.
+/// Closes the slice of a piece, between the two points of the gate. Its room is made here, so that each worker makes
+/// its own; where there is no memory for it the slice is closed without.
 pub(crate) fn run_piece<C: Compose, G: Gate>(
+    alloc: Global,
     table: &OpenNet,
     c: &C,
     gate: &G,
@@ -159,6 +196,9 @@ pub(crate) fn run_piece<C: Compose, G: Gate>(
     ensures { HasRun (C.algebra c.now) table.now piece result }
 {
     gate.pass(piece.number);
+    if piece.held.is_none() && piece.from < piece.to {
+        piece.snap.make_room(alloc, table.nodes());
+    }
     close_slice_with(
         table,
         &mut piece.pass,

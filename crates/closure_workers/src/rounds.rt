@@ -8,7 +8,8 @@
 //! Why it ends: if one of them has seen other words, then some word became less in this round, since what each has
 //! seen lies between the words at the round's beginning and those at its end.
 
-ghost use Rattle.std.specs.Prelude.{◌≡◌, ℕ, ◌<◌, ◌≤◌, ◌^◌, ⊤, true, false, IfOk, OnOk, OnErr, List, length, sum, slice_index};
+ghost use Rattle.std.specs.Prelude.{◌≡◌, ℕ, ◌<◌, ◌≤◌, ◌^◌, ⊤, true, false, IfOk, OnOk, OnErr};
+ghost use Rattle.std.specs.Prelude.{List, length, sum, slice_index};
 ghost use Rattle.std.specs.Thread.{IsSync};
 ghost use Rattle.std.specs.List.{All, AllZip};
 ghost use Rattle.network_words.specs.Edge.{edge_count};
@@ -32,6 +33,7 @@ use std::thread::Threads;
 /// Runs all pieces at once.
 fn run_pieces<R: Threads + Sync, C: Compose + Sync, G: Gate + Sync>(
     rt: &R,
+    alloc: Global,
     table: &OpenNet,
     c: &C,
     gate: &G,
@@ -44,7 +46,7 @@ fn run_pieces<R: Threads + Sync, C: Compose + Sync, G: Gate + Sync>(
     let run = |piece: Piece| -> Piece
         requires { (C.algebra c.now ≡ algebra_of table.now.opening) × IsPieceOf table.now piece }
         ensures { HasRun (C.algebra c.entry.now) table.entry.now piece result }
-    { run_piece(table, c, gate, piece) };
+    { run_piece(alloc, table, c, gate, piece) };
     let Ok(ran) = thread::map_vec(rt, pieces, &run) else {
         return Err(Memory);
     };
@@ -75,7 +77,7 @@ fn narrow_at_once<R: Threads + Sync, C: Compose + Sync, G: Gate + Sync>(
     lawful(c);
     let (table, pass) = open(alloc, net, c, count + 1)?;
     let (home, pieces) = deal(alloc, &table, pass, net.edges(), count, helds)?;
-    let pieces = run_pieces(rt, &table, c, gate, pieces)?;
+    let pieces = run_pieces(rt, alloc, &table, c, gate, pieces)?;
     let (pass, snaps) = gather(alloc, &table, home, pieces, helds)?;
     table.close(pass, net);
     Ok(snaps)
@@ -136,8 +138,8 @@ fn round<R: Threads + Sync, C: Compose + Sync, G: Gate + Sync>(
     Ok(have_all_seen(&snaps, net.words()))
 }
 
-/// Closes the network by rounds, of which the first begins with the copies that are held. If memory runs out the network
-/// may be between what it was and its closure.
+/// Closes the network by rounds, of which the first begins with the copies that are held. If memory runs out the
+/// network may be between what it was and its closure.
 fn close_by_rounds<R: Threads + Sync, C: Compose + Sync, G: Gate + Sync>(
     rt: &R,
     alloc: Global,
@@ -178,8 +180,8 @@ fn close_alone<C: Compose, G: Gate>(
     closed
 }
 
-/// Passes the two points of each of these workers, which have no edges, in a thread of its own. Takes no memory, so that
-/// no thread makes room of its own.
+/// Passes the two points of each of these workers, which have no edges, in a thread of its own. Takes no memory, so
+/// that no thread makes room of its own.
 fn pass_idle<R: Threads + Sync, G: Gate + Sync>(rt: &R, gate: &G, numbers: &mut [u32])
     requires some { 0 < length numbers.old }
     requires few { All (λ number. number < 64) numbers.old }
@@ -279,11 +281,11 @@ pub fn close_parallel<R: Threads + Sync, C: Compose + Sync, G: Gate + Sync>(
     Ok(())
 }
 
-/// Closes the network as `close_parallel` does, by workers that begin with the copies that are held, that of the first
-/// slice last. Where a copy is for the worker's slice, only what is less in the network than in the copy is looked at:
-/// for one that began with a closed network, what became less since. Each worker in turn gets an equal part of the edges
-/// that are left, rounded down; one alone works on this thread. If memory runs out the network may be between what it
-/// was and its closure.
+/// Closes the network as `close_parallel` does, by workers that begin with the copies that are held, that of the
+/// first slice last. Where a copy is for the worker's slice, only what is less in the network than in the copy is
+/// looked at: for one that began with a closed network, what became less since. Each worker in turn gets an equal
+/// part of the edges that are left, rounded down; one alone works on this thread. If memory runs out the network may
+/// be between what it was and its closure.
 pub fn close_held<R: Threads + Sync, C: Compose + Sync, G: Gate + Sync>(
     rt: &R,
     alloc: Global,

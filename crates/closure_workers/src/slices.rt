@@ -223,9 +223,9 @@ pub fn close_slice<C: Compose>(
     }
 }
 
-/// Closes the edges of a slice as `close_slice` does, on the copy that is held, or on the snapshot's own where none is. If
-/// the copy tells in the end that the slice is closed, it is held for the next time. Before it ends it reads the words
-/// so many times more: where nobody else narrows them, none is needed.
+/// Closes the edges of a slice as `close_slice` does, on the copy that is held, or on the snapshot's own where none
+/// is. If the copy tells in the end that the slice is closed, it is held for the next time. Before it ends it reads
+/// the words so many times more: where nobody else narrows them, none is needed.
 pub fn close_slice_with<C: Compose>(
     table: &OpenNet,
     pass: &mut Pass,

@@ -1,6 +1,6 @@
-//! Lists of one value, made a block at a time: a block is copied by whole vectors, which takes fewer instructions than
-//! writing its values one after another. Room is taken once, and filled as far as it is used: what isn't filled is never
-//! touched.
+//! Lists of one value, made a block at a time: a block is copied by whole vectors, which takes fewer instructions
+//! than writing its values one after another. Room is taken once, and filled as far as it is used: what isn't filled
+//! is never touched.
 
 ghost use Rattle.std.specs.Prelude.{◌≡◌, ◌+◌, ◌*◌, ◌≤◌, ◌++◌, [], length, replicate, vec_len, vec_capacity, IfOk};
 

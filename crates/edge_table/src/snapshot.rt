@@ -45,7 +45,7 @@ impl Snapshot {
     ghost use Rattle.network_words.specs.Edge.{IsProperTriple};
     ghost use Rattle.network_words.specs.Network.{IsNetwork, relation_between};
 
-    /// Room for the words of this many edges.
+    /// Room for the words of this many edges, and for a copy.
     pub fn new(alloc: Global, edges: u32) -> Result<Snapshot, Memory>
         ensures { IfOk result (λ snap. length snap ≡ edges) }
     {
@@ -62,6 +62,16 @@ impl Snapshot {
     {
         let words = vec![in alloc; 0; edges as usize].map_err(|_| Memory)?;
         Ok(Snapshot { words, copy: None })
+    }
+
+    /// Makes room for a copy of a network of so many nodes, if they are `COPIED` or more and there is memory for it.
+    pub fn make_room(&mut self, alloc: Global, nodes: u32)
+        requires bounded { nodes ≤ MAX_NODES }
+        ensures same { self.new ≡ self.old }
+    {
+        if nodes >= COPIED {
+            self.copy = SliceCopy::new(alloc, nodes).ok();
+        }
     }
 
     /// Takes the room for a copy out, if it is there.

@@ -1,5 +1,6 @@
-//! How far a text goes on with bytes that stand for themselves. 16 bytes are looked at together: a mask has a bit for each
-//! of them that doesn't, and its lowest bit is where they end. The last bytes, fewer than 16, are looked at one by one.
+//! How far a text goes on with bytes that stand for themselves. 16 bytes are looked at together: a mask has a bit for
+//! each of them that doesn't, and its lowest bit is where they end. The last bytes, fewer than 16, are looked at one
+//! by one.
 ghost use Rattle.std.specs.Prelude.{◌≡◌, ◌≤◌, length, map, not};
 ghost use Rattle.std.specs.List.{prefix_len};
 ghost use Rattle.std.specs.Simd.Lanes.{mask_l};

@@ -4,7 +4,8 @@
 //! passes over blanks, and takes the longest run of bytes that make one token. So a line takes no memory, each of its
 //! bytes is read once where the tokens are of the kind that is asked for, and a reader that gives up goes no further.
 //! Each token has a byte at least, so whoever takes tokens until none is left comes to the end.
-ghost use Rattle.std.specs.Prelude.{◌≡◌, ◌≢◌, ◌≤◌, ◌↔◌, [], ◌∷◌, length, None, Some, MatchOption, MatchBool, IsTrue, IfOk, IfSome, All};
+ghost use Rattle.std.specs.Prelude.{◌≡◌, ◌≢◌, ◌≤◌, ◌↔◌, [], ◌∷◌, length, None, Some, MatchOption};
+ghost use Rattle.std.specs.Prelude.{MatchBool, IsTrue, IfOk, IfSome, All};
 ghost use Rattle.std.specs.Prelude.{true, false, IsErrOf, map};
 ghost use Rattle.std.specs.List.{prefix_len};
 ghost use Rattle.qsr_lex.specs.Bytes.{is_blank};

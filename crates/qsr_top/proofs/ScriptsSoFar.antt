@@ -9,10 +9,10 @@ use Rattle.qsr_lex.specs.declared.TheConstants.{MAX_TEXT}
 use Rattle.qsr_outside.specs.Writing.{AppendsPart}
 use Rattle.qsr_words.specs.Asked.{ServeAsked}
 use Rattle.session_versions.specs.Stores.{StoreState}
-use Rattle.session_run.specs.Batches.{BatchState}
+use Rattle.session_scripts.specs.Batches.{BatchState}
+use Rattle.session_scripts.specs.Readers.{ReaderState, EndsAtCommit, EndsAtEnd, CutsBatch, HasNoBatch}
+use Rattle.session_scripts.specs.declared.TheConstants.{PIECE}
 use Rattle.session_run.specs.Replies.{IsAnswered, AreAnswered}
-use Rattle.session_run.specs.Readers.{ReaderState, EndsAtCommit, EndsAtEnd, CutsBatch, HasNoBatch}
-use Rattle.session_run.specs.declared.TheConstants.{PIECE}
 use Rattle.qsr_inputs.specs.declared.statuses.Status.TheVariants.{Done, TooLong}
 use Rattle.qsr_inputs.proofs.Naming.{none_first, none_second}
 use Rattle.qsr_top.specs.Serving.{first_store, batches_in, committed_in, WritesServed, WritesGiven, WritesFirst, WritesPartOfBatch}

@@ -10,10 +10,10 @@ use Rattle.qsr_outside.specs.Counts.{Rose, RoseAbove}
 use Rattle.qsr_outside.specs.Documents.{Documents}
 use Rattle.qsr_words.specs.Asked.{ServeAsked, serve}
 use Rattle.session_versions.specs.Stores.{StoreState}
-use Rattle.session_run.specs.Batches.{BatchState}
-use Rattle.session_run.specs.Scripts.{batches_of, committed_of}
+use Rattle.session_scripts.specs.Batches.{BatchState}
+use Rattle.session_scripts.specs.Scripts.{batches_of, committed_of}
+use Rattle.session_scripts.specs.declared.TheConstants.{PIECE}
 use Rattle.session_run.specs.Replies.{IsAnswered, AreAnswered}
-use Rattle.session_run.specs.declared.TheConstants.{PIECE}
 use Rattle.qsr_inputs.specs.Inputs.{CalculusOf}
 use Rattle.qsr_inputs.specs.declared.statuses.Status.{Status}
 use Rattle.qsr_inputs.specs.declared.statuses.Status.TheVariants.{Done, ReadFault, WriteFault, Memory, TooLong}

@@ -1,5 +1,5 @@
-//! The commands whose answer is made whole before it is written: each reads what its words name and then the source, and
-//! makes its answer of both.
+//! The commands whose answer is made whole before it is written: each reads what its words name and then the source,
+//! and makes its answer of both.
 ghost use Rattle.std.specs.Prelude.{◌≡◌, IfOk, IfErr};
 ghost use Rattle.std.specs.String.{string_bytes};
 ghost use Rattle.qsr_words.specs.Asked.{close, solve, check, trace, relate};

@@ -1,8 +1,8 @@
 ghost use Rattle.qsr_top.specs.Laws.{OutputIsOne, OutputIsThere, WordsFit};
 
-/// For what words ask for, documents and the bytes of a source one text and one status are permitted: one at most, and
-/// one at least where the documents that the words name are there, the class and the polygons fit the calculus, as words
-/// make them, and no polygons are asked for.
+/// For what words ask for, documents and the bytes of a source one text and one status are permitted: one at most,
+/// and one at least where the documents that the words name are there, the class and the polygons fit the calculus,
+/// as words make them, and no polygons are asked for.
 pub fn output_is_one()
     ensures one { OutputIsOne }
     ensures there { OutputIsThere }

@@ -1,8 +1,8 @@
 //! The command `serve`: the batches of the script of the source are answered one after another.
 //!
 //! The replies to a batch are written as soon as its line `commit` was given, before more of the script is read. So a
-//! script may be written by someone who waits for the replies, and what was answered stays where the script later fails.
-//! Each batch has at least one byte of the script, which isn't longer than the limit, so that the loop ends.
+//! script may be written by someone who waits for the replies, and what was answered stays where the script later
+//! fails. Each batch has at least one byte of the script, which isn't longer than the limit, so that the loop ends.
 ghost use Rattle.std.specs.Prelude.{Some};
 ghost use Rattle.qsr_words.specs.Asked.{serve};
 ghost use Rattle.qsr_words.specs.Requests.{serve_of, AreServed};
@@ -16,7 +16,8 @@ use qsr_inputs::{Status, calculus};
 use qsr_lex::MAX_TEXT;
 use qsr_outside::{Gate, Shelf, Sink, Source, WriteStop, write_all};
 use qsr_words::Serve;
-use session_run::{ScriptReader, run_batch};
+use session_run::run_batch;
+use session_scripts::ScriptReader;
 use session_versions::Store;
 use std::alloc::Global;
 use std::thread::Threads;

@@ -1,11 +1,12 @@
 //! Compositions by two look-ups.
 //!
-//! A set of at most eight base relations is a byte, and two nibbles. Composition distributes over unions, so that of two
-//! sets is the union of two: of each nibble of the first with the second. There are 32 nibbles, 16 at either place, and
-//! 256 bytes, and a table of 8 KB has the compositions of each nibble with each byte. So a composition costs the same
-//! whatever the sets, without a loop, and a converse is one look-up likewise. A larger calculus composes as `Fast` does:
-//! which of the two is asked once for all steps of a node, and not at each. So it does where few steps are taken, since
-//! making the table takes as long as some thousand compositions. Most of its entries are unions of two earlier ones.
+//! A set of at most eight base relations is a byte, and two nibbles. Composition distributes over unions, so that of
+//! two sets is the union of two: of each nibble of the first with the second. There are 32 nibbles, 16 at either
+//! place, and 256 bytes, and a table of 8 KB has the compositions of each nibble with each byte. So a composition
+//! costs the same whatever the sets, without a loop, and a converse is one look-up likewise. A larger calculus
+//! composes as `Fast` does: which of the two is asked once for all steps of a node, and not at each. So it does where
+//! few steps are taken, since making the table takes as long as some thousand compositions. Most of its entries are
+//! unions of two earlier ones.
 
 ghost use Rattle.std.specs.Prelude.{◌≡◌, ℕ, ◌+◌, ◌*◌, ◌<◌, ◌≤◌, length, slice_index, IfOk};
 ghost use Rattle.compose_fast.specs.Nibbles.{nibble};
@@ -74,8 +75,8 @@ fn pair_entry(c: &Fast, e: u32) -> u8
         .word() as u8
 }
 
-/// The composition of a nibble with a byte, at its place in the table, where those before it are known: the union of the
-/// compositions with the two nibbles of the byte, if neither is empty.
+/// The composition of a nibble with a byte, at its place in the table, where those before it are known: the union of
+/// the compositions with the two nibbles of the byte, if neither is empty.
 fn next_pair_entry(c: &Fast, pairs: &[u8], e: u32) -> u8
     requires few { c.now.size ≤ 8 }
     requires below { e < 8192 }

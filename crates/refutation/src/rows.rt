@@ -1,8 +1,8 @@
 //! Where the rows of edges begin.
 //!
-//! The edge from `i` to `j`, where `i < j`, is the one with number `j - i - 1` in the row of `i`. So with one number for
-//! each row, that at which it begins without `i`, the number of an edge takes one look-up and no multiplication. That
-//! number would be less than nothing for the first row, so that a constant is added to it, and taken off again.
+//! The edge from `i` to `j`, where `i < j`, is the one with number `j - i - 1` in the row of `i`. So with one number
+//! for each row, that at which it begins without `i`, the number of an edge takes one look-up and no multiplication.
+//! That number would be less than nothing for the first row, so that a constant is added to it, and taken off again.
 
 ghost use Rattle.std.specs.Prelude.{◌≡◌, ℕ, ◌<◌, ◌≤◌, length, slice_index, IfOk};
 ghost use Rattle.network_words.specs.declared.TheConstants.{MAX_NODES};

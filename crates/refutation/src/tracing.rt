@@ -5,7 +5,8 @@
 //! one edge and its steps, and that one is had back by undoing them. The check comes first, so the tree is one that
 //! refutes: each leaf has an empty set at last. Whoever checks the traced tree takes one composition for each step, and
 //! closes nothing.
-ghost use Rattle.std.specs.Prelude.{◌≡◌, ◌+◌, ◌<◌, ◌^◌, ◌++◌, ◌∷◌, [], List, All, IfOk, OnOk, MatchResult, length, reverse};
+ghost use Rattle.std.specs.Prelude.{◌≡◌, ◌+◌, ◌<◌, ◌^◌, ◌++◌, ◌∷◌, [], List, All, IfOk, OnOk};
+ghost use Rattle.std.specs.Prelude.{MatchResult, length, reverse};
 ghost use Rattle.network_words.specs.Network.{IsNetwork};
 ghost use Rattle.refutation.specs.Tree.{TreeNode, AreFewSteps, HasBareLeaves, leaf_node, listed};
 ghost use Rattle.refutation.specs.Refutes.{IsRefutation};

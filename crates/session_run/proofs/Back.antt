@@ -6,11 +6,11 @@ use Rattle.std.specs.List.{zip}
 use Rattle.std.proofs.lemmas.Bool.{cases_eq, eq-eqb, ne_eqb}
 use Rattle.std.proofs.lemmas.List.{map-append, length_push, length-take-le, length-drop, length-set, length-map, get_or-set_same, get_or-set_other, get_or-map, get_or-replicate, get_or_default, drop_more, take_more, take_all, drop_all, length-replicate}
 use Rattle.std.proofs.lemmas.List.Elements.{filter-append}
-use Rattle.session_run.specs.declared.batch.What.{What}
-use Rattle.session_run.specs.declared.batch.What.TheVariants.{Refused}
-use Rattle.session_run.specs.declared.batch.Line.{Line}
+use Rattle.session_scripts.specs.declared.batch.What.{What}
+use Rattle.session_scripts.specs.declared.batch.What.TheVariants.{Refused}
+use Rattle.session_scripts.specs.declared.batch.Line.{Line}
+use Rattle.session_scripts.specs.Batches.{BatchState}
 use Rattle.session_run.specs.declared.steps.Step.{Step}
-use Rattle.session_run.specs.Batches.{BatchState}
 use Rattle.session_run.specs.Replies.{said_by}
 use Rattle.session_run.specs.Phase.{asked_by, shown_by, asked_of, steps_of}
 use Rattle.session_run.specs.Steps.{lines_from, AreDealt}

@@ -6,10 +6,10 @@ use Rattle.std.specs.List.{All}
 use Rattle.std.proofs.lemmas.Bool.{cases_eq, eq-eqb, ne_eqb}
 use Rattle.std.proofs.lemmas.List.{take_more, length-take-le, length-set, length-map, get_or-set_same, get_or-set_other, map-set, get_or-map}
 use Rattle.std.proofs.lemmas.List.Elements.{All-nil, All-cons, All-head, All-tail}
-use Rattle.session_run.specs.declared.batch.What.{What}
-use Rattle.session_run.specs.declared.batch.Line.{Line}
+use Rattle.session_scripts.specs.declared.batch.What.{What}
+use Rattle.session_scripts.specs.declared.batch.Line.{Line}
+use Rattle.session_scripts.specs.Batches.{BatchState, IsAsked, IsLineFor, IsBatchFor}
 use Rattle.session_run.specs.declared.steps.Step.{Step}
-use Rattle.session_run.specs.Batches.{BatchState, IsAsked, IsLineFor, IsBatchFor}
 use Rattle.session_run.specs.Phase.{IsStepFor, asked_by, asked_of, steps_of}
 use Rattle.session_run.specs.Steps.{lines_from, lines_by, AreDealt}
 

@@ -11,12 +11,12 @@ use Rattle.session_versions.specs.HeldFacts.{held_with}
 use Rattle.session_versions.specs.Versions.{AreProper}
 use Rattle.session_versions.specs.declared.draft.WithdrawFault.{WithdrawFault}
 use Rattle.session_versions.proofs.Proper.{AreProper-push, AreProper-filter}
-use Rattle.session_run.specs.declared.batch.What.{What}
-use Rattle.session_run.specs.declared.batch.What.TheVariants.{Assert, Peek, Withdraw, Ask, Refused}
-use Rattle.session_run.specs.declared.batch.Line.{Line}
-use Rattle.session_run.specs.Batches.{IsAsked, IsLineFor}
+use Rattle.session_scripts.specs.declared.batch.What.{What}
+use Rattle.session_scripts.specs.declared.batch.What.TheVariants.{Assert, Peek, Withdraw, Ask, Refused}
+use Rattle.session_scripts.specs.declared.batch.Line.{Line}
+use Rattle.session_scripts.specs.Batches.{session_name, IsAsked, IsLineFor}
 use Rattle.session_run.specs.Drafting.{LosesFacts, GainsFacts}
-use Rattle.session_run.specs.Replies.{session_name, withdrawn_if, withdrawn_by, after_withdrawals, stated_by, after_facts, facts_of_line, facts_of_lines}
+use Rattle.session_run.specs.Replies.{withdrawn_if, withdrawn_by, after_withdrawals, stated_by, after_facts, facts_of_line, facts_of_lines}
 
 -- ---- filters
 

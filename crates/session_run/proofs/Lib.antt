@@ -1,13 +1,8 @@
-pub mod NamedSessions
 pub mod Dealt
 pub mod Back
 pub mod Narrowings
 pub mod StatedFacts
 pub mod Made
-pub mod Lines
-pub mod Readings
-pub mod Fitting
-pub mod BytesGiven
 pub mod Taken
 pub mod SessionLists
 pub mod FactsOfLines

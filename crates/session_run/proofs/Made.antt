@@ -21,11 +21,11 @@ use Rattle.session_versions.specs.Drafts.{DraftState}
 use Rattle.session_versions.specs.Versions.{AreProper, IsClosureOfFacts}
 use Rattle.session_versions.specs.Stores.{StoreState, IsStore}
 use Rattle.session_versions.proofs.Closures.{closure_goes_on, IsNetwork-closure_of_facts}
-use Rattle.session_run.specs.declared.batch.What.{What}
-use Rattle.session_run.specs.declared.batch.What.TheVariants.{Assert, Peek, Withdraw, Ask, Refused}
-use Rattle.session_run.specs.declared.batch.Line.{Line}
+use Rattle.session_scripts.specs.declared.batch.What.{What}
+use Rattle.session_scripts.specs.declared.batch.What.TheVariants.{Assert, Peek, Withdraw, Ask, Refused}
+use Rattle.session_scripts.specs.declared.batch.Line.{Line}
+use Rattle.session_scripts.specs.Batches.{BatchState, HasSession, IsLineFor, IsBatchFor}
 use Rattle.session_run.specs.declared.steps.Step.{Step}
-use Rattle.session_run.specs.Batches.{BatchState, HasSession, IsLineFor, IsBatchFor}
 use Rattle.session_run.specs.Replies.{AreShown, ArePeeks, said_by, IsOpening, staying, draft_of, facts_of_lines}
 use Rattle.session_run.specs.Drafting.{LosesFacts, GainsFacts}
 use Rattle.session_run.specs.Phase.{steps_of, asked_of, shown_by, facts_asked, IsClosureWithin}

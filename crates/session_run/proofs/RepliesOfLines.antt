@@ -6,8 +6,9 @@ use Rattle.calculus_table.specs.Calculus.{NamedAlgebra}
 use Rattle.session_versions.specs.Drafts.{DraftState}
 use Rattle.session_versions.specs.Stores.{StoreState}
 use Rattle.session_versions.specs.declared.draft.WithdrawFault.{WithdrawFault}
-use Rattle.session_run.specs.declared.batch.Line.{Line}
-use Rattle.session_run.specs.Replies.{session_name, withdrawn_by, withdrawal_fault, withdrawal_faults, after_withdrawals, reply_to, reply_line, next_after, version_line, replies}
+use Rattle.session_scripts.specs.declared.batch.Line.{Line}
+use Rattle.session_scripts.specs.Batches.{session_name}
+use Rattle.session_run.specs.Replies.{withdrawn_by, withdrawal_fault, withdrawal_faults, after_withdrawals, reply_to, reply_line, next_after, version_line, replies}
 
 -- ---- withdrawals
 

@@ -7,7 +7,7 @@ use Rattle.calculus_table.specs.Algebra.{Algebra}
 use Rattle.network_words.specs.declared.fact.Fact.{Fact}
 use Rattle.network_words.specs.Network.{Refines}
 use Rattle.network_words.proofs.Networks.{Refines-trans}
-use Rattle.session_run.specs.declared.batch.What.{What}
+use Rattle.session_scripts.specs.declared.batch.What.{What}
 use Rattle.session_run.specs.declared.steps.Step.{Step}
 use Rattle.session_run.specs.declared.sessions.Session.{Session}
 use Rattle.session_run.specs.Phase.{asked_by, steps_of, asked_of, facts_of_session, facts_asked, facts_stated, asked_of_sessions, AreShownAbove}

@@ -5,10 +5,10 @@ use Rattle.std.proofs.lemmas.Bool.{cases_eq}
 use Rattle.std.proofs.lemmas.List.Elements.{All-nil, All-cons, All-head, All-tail, All-append}
 use Rattle.network_words.specs.declared.fact.Fact.{Fact}
 use Rattle.narrow_core.specs.Machine.{IsProperFact}
-use Rattle.session_run.specs.declared.batch.What.{What}
-use Rattle.session_run.specs.declared.batch.What.TheVariants.{Assert, Peek, Withdraw, Ask, Refused}
-use Rattle.session_run.specs.declared.batch.Line.{Line}
-use Rattle.session_run.specs.Batches.{BatchState, IsAsked, HasSession, IsLineFor, IsBatchFor}
+use Rattle.session_scripts.specs.declared.batch.What.{What}
+use Rattle.session_scripts.specs.declared.batch.What.TheVariants.{Assert, Peek, Withdraw, Ask, Refused}
+use Rattle.session_scripts.specs.declared.batch.Line.{Line}
+use Rattle.session_scripts.specs.Batches.{BatchState, IsAsked, HasSession, IsLineFor, IsBatchFor}
 use Rattle.session_run.specs.Replies.{facts_of_line, facts_of_lines}
 use Rattle.session_run.specs.Phase.{fact_of, facts_of_session, facts_asked}
 use Rattle.session_run.specs.Steps.{lines_from, AreDealt}

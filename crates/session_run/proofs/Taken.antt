@@ -15,8 +15,8 @@ use Rattle.narrow_core.specs.Actor.{ActorState}
 use Rattle.narrow_core.proofs.Sights.{length-seen, seen-within}
 use Rattle.edge_table.specs.Opening.{PassState}
 use Rattle.edge_table.specs.Passes.{seen_between, Reads, Asserts}
-use Rattle.session_run.specs.declared.batch.What.{What}
-use Rattle.session_run.specs.declared.batch.What.TheVariants.{Assert, Peek, Withdraw, Ask, Refused}
+use Rattle.session_scripts.specs.declared.batch.What.{What}
+use Rattle.session_scripts.specs.declared.batch.What.TheVariants.{Assert, Peek, Withdraw, Ask, Refused}
 use Rattle.session_run.specs.declared.steps.Step.{Step}
 use Rattle.session_run.specs.Replies.{IsShown, told_after, AreShown}
 use Rattle.session_run.specs.Phase.{asked_by, shown_by, fact_of, facts_of_session, told_by, IsTaken, AreTaken}

@@ -7,8 +7,8 @@ use Rattle.session_versions.specs.HeldFacts.{facts_of}
 use Rattle.session_versions.specs.Drafts.{DraftState}
 use Rattle.session_versions.specs.Versions.{AreProper}
 use Rattle.session_versions.specs.Stores.{StoreState}
-use Rattle.session_run.specs.declared.batch.Line.{Line}
-use Rattle.session_run.specs.Batches.{IsLineFor}
+use Rattle.session_scripts.specs.declared.batch.Line.{Line}
+use Rattle.session_scripts.specs.Batches.{IsLineFor}
 use Rattle.session_run.specs.Replies.{facts_of_lines}
 
 -- some facts are gone, or none is, and then the draft is as before

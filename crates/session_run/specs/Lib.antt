@@ -1,9 +1,3 @@
-pub mod Commands
-pub mod CommandsRead
-pub mod Batches
-pub mod Scripts
-pub mod Readings
-pub mod Readers
 pub mod Replies
 pub mod Phase
 pub mod Steps

@@ -12,12 +12,12 @@ use Rattle.narrow_core.specs.Actor.{ActorState, fresh}
 use Rattle.narrow_core.specs.Bound.{IsWithinFact}
 use Rattle.edge_table.specs.Opening.{OpenState, IsPassOf, algebra_of}
 use Rattle.closure_workers.specs.Slices.{IsHeld}
-use Rattle.session_run.specs.declared.batch.What.{What}
-use Rattle.session_run.specs.declared.batch.What.TheVariants.{Assert, Peek, Withdraw, Ask, Refused}
+use Rattle.session_scripts.specs.declared.batch.What.{What}
+use Rattle.session_scripts.specs.declared.batch.What.TheVariants.{Assert, Peek, Withdraw, Ask, Refused}
+use Rattle.session_scripts.specs.Batches.{IsAsked}
 use Rattle.session_run.specs.declared.steps.Step.{Step}
 use Rattle.session_run.specs.declared.sessions.Session.{Session}
 use Rattle.session_run.specs.declared.pieces.Piece.{Piece}
-use Rattle.session_run.specs.Batches.{IsAsked}
 use Rattle.session_run.specs.Replies.{IsShown, told_after, AreShown}
 
 -- ---- steps of sessions

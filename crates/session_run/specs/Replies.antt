@@ -1,5 +1,5 @@
 -- Replies: what a batch does to the facts of a store, and the lines that answer it.
-use Rattle.std.specs.Prelude.{◌≡◌, ℕ, ◌+◌, List, [], ◌∷◌, ◌++◌, length, map, filter, nat_lt, ◌==◌, Option, None, Some, MatchBool, if◌then◌else◌, slice_index_or, codes}
+use Rattle.std.specs.Prelude.{◌≡◌, ℕ, ◌+◌, List, [], ◌∷◌, ◌++◌, length, map, filter, nat_lt, ◌==◌, Option, None, Some, MatchBool, if◌then◌else◌, codes}
 use Rattle.std.specs.Fmt.{decimal}
 use Rattle.std.specs.List.{list_any, zip}
 use Rattle.calculus_table.specs.Rel.{IsWithin}
@@ -15,18 +15,14 @@ use Rattle.session_versions.specs.Versions.{VersionState, IsVersion}
 use Rattle.session_versions.specs.Stores.{StoreState, version_with, committing}
 use Rattle.session_versions.specs.declared.draft.WithdrawFault.{WithdrawFault}
 use Rattle.session_versions.specs.declared.draft.WithdrawFault.TheVariants.{NoFact, NotYours}
-use Rattle.session_run.specs.declared.batch.What.{What}
-use Rattle.session_run.specs.declared.batch.What.TheVariants.{Assert, Peek, Withdraw, Ask, Refused}
-use Rattle.session_run.specs.declared.batch.Line.{Line}
+use Rattle.session_scripts.specs.declared.batch.What.{What}
+use Rattle.session_scripts.specs.declared.batch.What.TheVariants.{Assert, Peek, Withdraw, Ask, Refused}
+use Rattle.session_scripts.specs.declared.batch.Line.{Line}
+use Rattle.session_scripts.specs.Batches.{BatchState, session_name}
 use Rattle.session_run.specs.declared.replies.Reply.{Reply}
 use Rattle.session_run.specs.declared.replies.Reply.TheVariants.{NewFact, Shown, Withdrawn, AtVersion, Refusal}
-use Rattle.session_run.specs.Batches.{BatchState}
 
 -- ---- the facts of the version that a batch makes
-
--- the name of the session with this place
-abbrev pub session_name : List (List ℕ) → ℕ → List ℕ
-session_name sessions k = slice_index_or sessions k []
 
 -- a fact goes if its session withdraws it
 abbrev pub withdrawn_if : Option WithdrawFault → ℕ → DraftState → DraftState

@@ -1,9 +1,9 @@
 -- The lines of a batch, dealt to its sessions, and the sets that they show, by their places among the lines.
 use Rattle.std.specs.Prelude.{◌≡◌, ℕ, ◌<◌, List, [], length, map, filter, ◌==◌, slice_index_or}
 use Rattle.std.specs.List.{enumerate_from}
-use Rattle.session_run.specs.declared.batch.What.{What}
-use Rattle.session_run.specs.declared.batch.Line.{Line}
-use Rattle.session_run.specs.Batches.{BatchState}
+use Rattle.session_scripts.specs.declared.batch.What.{What}
+use Rattle.session_scripts.specs.declared.batch.Line.{Line}
+use Rattle.session_scripts.specs.Batches.{BatchState}
 
 -- the lines of the session with this place, each with its place among the lines, of which the first has the place `at`
 abbrev pub lines_from : ℕ → ℕ → List Line → List (ℕ × What)

@@ -6,9 +6,9 @@ ghost use Rattle.session_run.specs.declared.steps.Step.{Step};
 ghost use Rattle.session_run.specs.Phase.{asked_by, shown_by, asked_of, steps_of};
 ghost use Rattle.session_run.specs.Steps.{AreDealt};
 
-use crate::batch::{Batch, What};
 use crate::steps::Step;
 use calculus_table::{Memory, Rel};
+use session_scripts::{Batch, What};
 use std::alloc::Global;
 
 /// The steps of each session of a batch: its lines in their order. No step shows a set yet.
@@ -26,7 +26,8 @@ pub(crate) fn deal(alloc: Global, batch: &Batch) -> Result<Vec<Vec<Step>>, Memor
     Ok(sessions)
 }
 
-/// The sets that the steps of a batch's sessions show, by the places of their lines. A line that is no peek may have any.
+/// The sets that the steps of a batch's sessions show, by the places of their lines. A line that is no peek may have
+/// any.
 pub(crate) fn sets_shown(
     alloc: Global,
     batch: &Batch,

@@ -5,8 +5,8 @@ ghost use Rattle.session_run.specs.Replies.{withdrawn_by, withdrawal_fault, with
 ghost use Rattle.session_run.specs.Replies.{stated_by, after_facts};
 ghost use Rattle.session_run.specs.Drafting.{LosesFacts, GainsFacts};
 
-use crate::batch::{Batch, What};
 use calculus_table::Memory;
+use session_scripts::{Batch, What};
 use session_versions::{Draft, WithdrawFault};
 use std::alloc::Global;
 

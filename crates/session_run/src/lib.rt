@@ -1,41 +1,20 @@
-//! Scripts of the commands of sessions that use one network, cut into batches.
+//! The batches of scripts of sessions, run over the versions of one network.
 //!
 //! ```text
-//! let mut reader = ScriptReader::new(alloc, limit)?;
-//! let batch = reader.next(&mut source, &c, nodes)?;     // `a assert 0 1 ( TPP )`, .. up to `commit`
+//! let mut store = Store::new(alloc, nodes, &c)?;
+//! let text = run_batch(rt, alloc, &mut store, &batch, &c, &fast, workers, gate)?;     // `a fact 1`, .. `version 1 ..`
 //! ```
 #![tactic(auto)]
 
-mod batch;
-mod commands;
 mod dealing;
 mod drafts;
-mod input;
-mod laws;
 mod opening;
 mod phase;
 mod pieces;
 mod points;
-mod reader;
-mod reading;
 mod replies;
 mod run;
 mod sessions;
 mod steps;
 
-pub use batch::{Batch, Line, What};
-pub use laws::limits_of_scripts;
-pub use reader::ScriptReader;
 pub use run::run_batch;
-
-/// The most bytes of a command line, without its end.
-pub const LONGEST_LINE: usize = 4096;
-
-/// The most command lines of a batch.
-pub const MOST_LINES: usize = 4096;
-
-/// The most sessions of a batch.
-pub const MOST_SESSIONS: usize = 64;
-
-/// How many bytes of a script are read at once. Fewer than so many are taken after a `commit`.
-pub const PIECE: usize = 4096;

@@ -37,8 +37,8 @@ pub(crate) fn opening<C: Compose>(
     }
 }
 
-/// A closed network that the opening lies within: that of the newest version, or where the draft has fewer facts the one
-/// with every relation. The workers go on from it.
+/// A closed network that the opening lies within: that of the newest version, or where the draft has fewer facts the
+/// one with every relation. The workers go on from it.
 pub(crate) fn closed_above<C: Compose>(
     alloc: Global,
     store: &Store,

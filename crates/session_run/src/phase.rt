@@ -1,9 +1,9 @@
 //! The sessions of a batch and the workers, at once on the words of one table, and then the closing.
 //!
-//! Each session has a pass, with which it states its facts and looks at words as they are, and so has each worker, with
-//! which it closes a range of the edges. They all may begin at once, take no memory and wait for no lock. Where the gate
-//! is open, nobody can tell in what order they do: the sessions then come first, since stating facts costs little, and
-//! threads are started only where several workers share the edges.
+//! Each session has a pass, with which it states its facts and looks at words as they are, and so has each worker,
+//! with which it closes a range of the edges. They all may begin at once, take no memory and wait for no lock. Where
+//! the gate is open, nobody can tell in what order they do: the sessions then come first, since stating facts costs
+//! little, and threads are started only where several workers share the edges.
 //!
 //! Why it is right: words only become less, no step loses a closed network within what was stated, and each pass knows
 //! all that its session was told. The passes are joined at the end, and the words that the table is closed with are
@@ -81,8 +81,8 @@ pub(crate) fn narrow_together<R: Threads + Sync, C: Compose + Sync, G: Gate + Sy
     Ok(done)
 }
 
-/// Narrows the network by the sessions and so many pieces at once, while so many workers more have no edges. Returns the
-/// lines of the sessions as they were taken, and the copies of the pieces.
+/// Narrows the network by the sessions and so many pieces at once, while so many workers more have no edges. Returns
+/// the lines of the sessions as they were taken, and the copies of the pieces.
 fn narrow_at_once<R: Threads + Sync, C: Compose + Sync, G: Gate + Sync>(
     rt: &R,
     alloc: Global,
@@ -128,8 +128,8 @@ fn narrow_at_once<R: Threads + Sync, C: Compose + Sync, G: Gate + Sync>(
     Ok((done, copies))
 }
 
-/// Runs the sessions and the pieces at once, or, where the gate is open, the sessions first. So many threads at most pass
-/// the points of the gate, of which one begins first, since it takes a while until it does. Takes no memory.
+/// Runs the sessions and the pieces at once, or, where the gate is open, the sessions first. So many threads at most
+/// pass the points of the gate, of which one begins first, since it takes a while until it does. Takes no memory.
 fn run_at_once<R: Threads + Sync, C: Compose + Sync, G: Gate + Sync>(
     rt: &R,
     table: &OpenNet,

@@ -68,7 +68,7 @@ pub(crate) fn deal_pieces(
     let mut rest = pass;
     let mut from = 0;
     for number in 0..count {
-        let to = slice_end(edges, from, count - number);
+        let to = slice_end(table.nodes(), edges, from, count - number);
         let (kept, pass) = table.split(rest, 1);
         rest = kept;
         let snap = Snapshot::plain(alloc, edges)?;

@@ -10,15 +10,15 @@ ghost use Rattle.network_words.specs.Edge.{IsProperPair};
 ghost use Rattle.session_versions.specs.Drafts.{DraftState};
 ghost use Rattle.session_versions.specs.Stores.{committing};
 ghost use Rattle.session_versions.specs.Versions.{VersionState};
-ghost use Rattle.session_run.specs.Batches.{IsBatchFor, IsAsked};
+ghost use Rattle.session_scripts.specs.Batches.{IsBatchFor, IsAsked};
 ghost use Rattle.session_run.specs.Drafting.{CanCommit};
 ghost use Rattle.session_run.specs.Replies.{draft_of, withdrawal_fault, withdrawal_faults, next_after, version_line};
 ghost use Rattle.session_run.specs.Replies.{withdrawal_reply, ask_reply, reply_to, reply_line, replies};
 
-use crate::batch::{Batch, What};
 use calculus_table::{Calculus, Compose, Memory, Rel};
 use named_sets::SetWriter;
 use network_words::Net;
+use session_scripts::{Batch, What};
 use session_versions::{AskFault, KEPT_VERSIONS, Store, WithdrawFault};
 use std::alloc::Global;
 

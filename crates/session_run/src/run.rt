@@ -1,5 +1,5 @@
-//! A batch, run: its withdrawals and facts make a version, its sessions and the workers narrow the words of one table at
-//! once, and its lines are answered.
+//! A batch, run: its withdrawals and facts make a version, its sessions and the workers narrow the words of one table
+//! at once, and its lines are answered.
 ghost use Rattle.std.specs.Prelude.{◌≡◌, ◌+◌, ◌<◌, ◌≤◌, ◌^◌, IfOk, OnErr, OnOk, length};
 ghost use Rattle.std.specs.List.{zip};
 ghost use Rattle.std.specs.String.{string_bytes};
@@ -7,13 +7,12 @@ ghost use Rattle.calculus_table.specs.Composition.{full_of};
 ghost use Rattle.network_words.specs.Network.{IsNetwork};
 ghost use Rattle.network_words.specs.Closure.{IsClosed};
 ghost use Rattle.session_versions.specs.Stores.{IsStore};
-ghost use Rattle.session_run.specs.Batches.{IsBatchFor};
+ghost use Rattle.session_scripts.specs.Batches.{IsBatchFor};
 ghost use Rattle.session_run.specs.Drafting.{LosesFacts, GainsFacts};
 ghost use Rattle.session_run.specs.Phase.{IsClosureWithin};
 ghost use Rattle.session_run.specs.Replies.{withdrawal_faults, facts_of_lines, draft_of, staying, drafted};
 ghost use Rattle.session_run.specs.Replies.{IsOpening, ArePeeks, IsAnswered};
 
-use crate::batch::Batch;
 use crate::dealing::{deal, sets_shown};
 use crate::drafts::{add_all, withdraw_all};
 use crate::opening::{closed_above, opening};
@@ -22,6 +21,7 @@ use crate::replies::replies;
 use calculus_table::{Calculus, Compose, Memory, Rel};
 use network_words::Net;
 use qsr_outside::Gate;
+use session_scripts::Batch;
 use session_versions::{Draft, Store, WithdrawFault};
 use std::alloc::Global;
 use std::thread::Threads;
@@ -36,10 +36,10 @@ struct Begun {
     closed: Net,
 }
 
-/// Makes one version of the store, and returns the replies to the lines of the batch, written with the names of `names`.
-/// The sessions and so many workers, from 1 to 64, begin at once and narrow the words of one table. Each worker passes
-/// the point of its number of `gate` as it begins, and 1000 more as it ends; each session does so at 2000 and 3000
-/// more than its place. If memory runs out the store is as before.
+/// Makes one version of the store, and returns the replies to the lines of the batch, written with the names of
+/// `names`. The sessions and so many workers, from 1 to 64, begin at once and narrow the words of one table. Each
+/// worker passes the point of its number of `gate` as it begins, and 1000 more as it ends; each session does so at
+/// 2000 and 3000 more than its place. If memory runs out the store is as before.
 pub fn run_batch<R: Threads + Sync, C: Compose + Sync, G: Gate + Sync>(
     rt: &R,
     alloc: Global,
@@ -112,7 +112,8 @@ fn begin<C: Compose>(alloc: Global, store: &Store, batch: &Batch, c: &C) -> Resu
 }
 
 /// Closes the network, which lies within a closed one, with the facts of a batch, by its sessions and the workers at
-/// once. Returns the set that each line shows. If memory runs out the network may be between what it was and the closure.
+/// once. Returns the set that each line shows. If memory runs out the network may be between what it was and the
+/// closure.
 fn narrowed<R: Threads + Sync, C: Compose + Sync, G: Gate + Sync>(
     rt: &R,
     alloc: Global,

@@ -1,9 +1,9 @@
 //! The sessions of a batch, each with a pass of its own, with which it states its facts and looks at words as they are.
 //!
 //! One thread runs the sessions, each as soon as it may begin, in whatever order that is; a session never waits while
-//! it takes its steps. Another one passes the points of the gate (`points`). Where no session could begin for a while, or
-//! no end was passed, since a point holds the thread that passes it, one more thread goes to the points that are left. So
-//! no session waits for another one, and where no point holds anyone one thread passes them all.
+//! it takes its steps. Another one passes the points of the gate (`points`). Where no session could begin for a
+//! while, or no end was passed, since a point holds the thread that passes it, one more thread goes to the points
+//! that are left. So no session waits for another one, and where no point holds anyone one thread passes them all.
 
 ghost use Rattle.std.specs.Prelude.{◌≡◌, ◌+◌, ◌-◌, ◌<◌, ◌≤◌, ◌++◌, [], ℕ, IfOk, length, true};
 ghost use Rattle.std.specs.List.{All};
@@ -219,8 +219,8 @@ pub(crate) fn run_rest<C: Compose>(
     }
 }
 
-/// Starts one more thread that goes to the points, of so many that may be, and runs the sessions. Where none may be, this
-/// one passes the points that are left.
+/// Starts one more thread that goes to the points, of so many that may be, and runs the sessions. Where none may be,
+/// this one passes the points that are left.
 #[cycle(running)]
 fn run_helped<R: Threads + Sync, C: Compose + Sync, G: Gate + Sync>(
     rt: &R,

@@ -6,9 +6,9 @@ ghost use Rattle.network_words.specs.Network.{IsNetwork};
 ghost use Rattle.edge_table.specs.Opening.{IsPassOf, algebra_of};
 ghost use Rattle.session_run.specs.Phase.{IsStepFor, asked_by, IsTaken, AreTaken};
 
-use crate::batch::What;
 use calculus_table::{Compose, Rel, lawful};
 use edge_table::{OpenNet, Pass};
+use session_scripts::What;
 
 /// A line of a session: its place among the lines of the batch, what it asks for, and the set that it shows.
 #[derive(Clone, Copy, Debug)]

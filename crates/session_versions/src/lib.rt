@@ -1,4 +1,5 @@
-//! Versions of the facts that sessions state and withdraw, each with the algebraic closure of the network that they make.
+//! Versions of the facts that sessions state and withdraw, each with the algebraic closure of the network that they
+//! make.
 //!
 //! A session's batch begins with a draft of the newest version's facts, takes facts out of it and puts new ones in, and
 //! ends as one version. The newest sixteen versions are kept, and what was true at a version is a look-up:

@@ -1,7 +1,7 @@
 //! A path of closed networks whose splits a class rules: it tells the edge that is split next, and into which parts.
 //!
-//! The candidates for the edge follow the path as it narrows and goes back. On a level with an empty set nothing is split,
-//! so they stay there as they are on the level below, until that level is left.
+//! The candidates for the edge follow the path as it narrows and goes back. On a level with an empty set nothing is
+//! split, so they stay there as they are on the level below, until that level is left.
 ghost use Rattle.std.specs.Prelude.{◌≡◌, [], ◌<◌, IfOk, length};
 
 use crate::candidates::Candidates;

@@ -1,11 +1,7 @@
-//! Tests of networks: their files, schedules of actors, words of edges, closures and workers.
+//! Tests of networks: their facts and names, their files, and schedules of actors that narrow them.
 
 #![tactic(auto)]
 
-#[cfg(test)]
-mod closures;
-#[cfg(test)]
-mod edge_words;
 #[cfg(test)]
 mod nets;
 #[cfg(test)]
@@ -14,5 +10,3 @@ mod network_files;
 mod networks;
 #[cfg(test)]
 mod schedules;
-#[cfg(test)]
-mod workers;

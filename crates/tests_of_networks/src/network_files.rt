@@ -1,7 +1,7 @@
 //! Network files over the calculus of points on a line: which are read, which are refused at which line, and the text
 //! of a network.
 use calculus_builtin::point;
-use calculus_table::{Calculus, Memory};
+use calculus_table::Calculus;
 use network_file::FileFault::{NameTwice, NoEnd, NoNode, Nodes, SelfEdge, Syntax, Unknown};
 use network_file::{FileFault, read, text};
 use network_words::Net;
@@ -11,23 +11,32 @@ use std::process::Abort;
 use std::test::Fail;
 
 /// Reads a text that is no longer than a text may be.
-fn read_short(alloc: Global, text: &[u8], c: &Calculus) -> Result<Net, FileFault> {
-    if text.len() > MAX_TEXT {
+fn read_short(alloc: Global, file: &[u8], c: &Calculus) -> Result<Net, FileFault> {
+    if file.len() > MAX_TEXT {
         return Err(FileFault::Memory);
     }
-    read(alloc, text, c)
+    read(alloc, file, c)
+}
+
+/// Reads such a text over the calculus of points.
+fn read_points(alloc: Global, file: &[u8]) -> Result<Net, FileFault> {
+    let c = point(alloc).map_err(|_| FileFault::Memory)?;
+    read_short(alloc, file, &c)
 }
 
 /// A file, the nodes of its network, and the sets.
 type Read<'a> = (&'a [u8], u32, &'a [u64]);
 
+/// Fails unless the network that was read of the file has so many nodes, and these sets.
+fn assert_net(rt: &impl Abort, file: &[u8], net: &Net, nodes: u32, words: &[u64]) {
+    assert_eq!(rt; net.nodes(), nodes, "{file:?}");
+    assert_eq!(rt; net.words(), words, "{file:?}");
+}
+
 /// Fails unless each file is read as its network.
 fn are_read(rt: &impl Abort, alloc: Global, rows: &[Read]) -> Result<(), FileFault> {
-    let c = point(alloc).map_err(|_| FileFault::Memory)?;
-    for (text, nodes, words) in rows {
-        let net = read_short(alloc, text, &c)?;
-        assert_eq!(rt; net.nodes(), *nodes, "{text:?}");
-        assert_eq!(rt; net.words(), *words, "{text:?}");
+    for (file, nodes, words) in rows {
+        assert_net(rt, file, &read_points(alloc, file)?, *nodes, words);
     }
     Ok(())
 }
@@ -71,12 +80,10 @@ fn names_comments_and_loose_lines_are_read(rt: HostRuntime) -> Result<(), Fail> 
 type Refused<'a> = (&'a [u8], FileFault);
 
 /// Fails unless each file is refused with its fault.
-fn are_refused(rt: &impl Abort, alloc: Global, rows: &[Refused]) -> Result<(), Memory> {
-    let c = point(alloc)?;
-    for (text, fault) in rows {
-        assert_eq!(rt; read_short(alloc, text, &c).err(), Some(*fault), "{text:?}");
+fn are_refused(rt: &impl Abort, alloc: Global, rows: &[Refused]) {
+    for (file, fault) in rows {
+        assert_eq!(rt; read_points(alloc, file).err(), Some(*fault), "{file:?}");
     }
-    Ok(())
 }
 
 /// No line of nodes, or too many or too few of them.
@@ -92,9 +99,8 @@ const FIRST_LINES: [Refused; 8] = [
 ];
 
 #[test]
-fn a_faulty_first_line_is_refused(rt: HostRuntime) -> Result<(), Fail> {
-    are_refused(&rt, rt.alloc(), &FIRST_LINES)?;
-    Ok(())
+fn a_faulty_first_line_is_refused(rt: HostRuntime) {
+    are_refused(&rt, rt.alloc(), &FIRST_LINES);
 }
 
 /// No list of as many different names as there are nodes, or one that comes too late.
@@ -111,9 +117,8 @@ const NAMES: [Refused; 6] = [
 ];
 
 #[test]
-fn a_faulty_line_of_names_is_refused(rt: HostRuntime) -> Result<(), Fail> {
-    are_refused(&rt, rt.alloc(), &NAMES)?;
-    Ok(())
+fn a_faulty_line_of_names_is_refused(rt: HostRuntime) {
+    are_refused(&rt, rt.alloc(), &NAMES);
 }
 
 /// No two nodes and a set, or no such node or base relation.
@@ -142,9 +147,8 @@ const FAULTY_FACTS: [Refused; 12] = [
 ];
 
 #[test]
-fn a_faulty_fact_is_refused(rt: HostRuntime) -> Result<(), Fail> {
-    are_refused(&rt, rt.alloc(), &FAULTY_FACTS)?;
-    Ok(())
+fn a_faulty_fact_is_refused(rt: HostRuntime) {
+    are_refused(&rt, rt.alloc(), &FAULTY_FACTS);
 }
 
 /// No end, more than one, or a byte that no text has.
@@ -164,9 +168,8 @@ const ENDS: [Refused; 9] = [
 ];
 
 #[test]
-fn a_faulty_end_or_a_hostile_byte_is_refused(rt: HostRuntime) -> Result<(), Fail> {
-    are_refused(&rt, rt.alloc(), &ENDS)?;
-    Ok(())
+fn a_faulty_end_or_a_hostile_byte_is_refused(rt: HostRuntime) {
+    are_refused(&rt, rt.alloc(), &ENDS);
 }
 
 /// The text of the network that the file has.
@@ -200,17 +203,17 @@ fn the_greatest_network_has_32642_lines(rt: HostRuntime) -> Result<(), Fail> {
 }
 
 /// A file of one node, after so many empty lines that it has as many bytes as a text may have.
-fn greatest_text(alloc: Global) -> Result<Vec<u8>, Fail> {
+fn greatest_text(rt: &impl Abort, alloc: Global) -> Result<Vec<u8>, Fail> {
     let mut bytes = vec![in alloc; b'\n'; 16_777_207]?;
     bytes.extend_from_slice(b"nodes 1\n.")?;
+    assert_eq!(rt; bytes.len(), 16_777_216);
     Ok(bytes)
 }
 
 #[test]
 fn a_text_of_the_greatest_length_is_read(rt: HostRuntime) -> Result<(), Fail> {
-    let bytes = greatest_text(rt.alloc())?;
-    assert_eq!(rt; bytes.len(), 16_777_216);
-    let net = read_short(rt.alloc(), &bytes, &point(rt.alloc())?)?;
+    let bytes = greatest_text(&rt, rt.alloc())?;
+    let net = read_points(rt.alloc(), &bytes)?;
     assert_eq!(rt; net.nodes(), 1);
     Ok(())
 }

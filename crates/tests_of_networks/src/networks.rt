@@ -1,26 +1,31 @@
 //! Networks over the calculus of points on a line: how many nodes and edges they have, how facts narrow them, and the
 //! names of their nodes.
-ghost use Rattle.std.specs.Prelude.{◌≡◌, IfOk};
+ghost use Rattle.std.specs.Prelude.{◌≡◌, ◌<◌, All, IfOk, IsTrue};
+ghost use Rattle.calculus_table.specs.Rel.{IsWithin};
+ghost use Rattle.calculus_table.specs.Composition.{full_of};
 
-use crate::nets::{AFTER, ANY, BEFORE, FactRow, SAME, are_of_the_calculus, assert_words, facts_of};
+use crate::nets::{AFTER, ANY, BEFORE, SAME, assert_words, fact};
 use calculus_builtin::point;
-use calculus_table::{Calculus, Compose, Memory, Rel};
-use network_words::{Net, NetFault, edge_between};
-use std::alloc::Global;
+use calculus_table::{Calculus, Compose, Rel};
+use network_words::{Fact, Net, NetFault, edge_between};
+use std::alloc::{AllocError, Global};
 use std::process::Abort;
 use std::test::Fail;
 
 /// Nodes and edges.
 const SIZES: [(u32, u32); 5] = [(1, 0), (2, 1), (4, 6), (128, 8128), (256, 32640)];
 
+/// Fails unless the network has so many edges, with a set for each, and the base relations of points.
+fn assert_edges(rt: &impl Abort, net: &Net, edges: u32) {
+    assert_eq!(rt; net.edges(), edges);
+    assert_eq!(rt; net.words().len(), edges as usize);
+    assert_eq!(rt; net.full(), Rel::of(ANY));
+}
+
 #[test]
 fn networks_have_one_to_the_limit_of_nodes(rt: HostRuntime) -> Result<(), Fail> {
-    let full = Rel::of(ANY);
     for (nodes, edges) in SIZES {
-        let net = Net::new(rt.alloc(), nodes, full)?;
-        assert_eq!(rt; net.edges(), edges);
-        assert_eq!(rt; net.words().len(), edges as usize);
-        assert_eq!(rt; net.full(), full);
+        assert_edges(&rt, &Net::new(rt.alloc(), nodes, Rel::of(ANY))?, edges);
     }
     Ok(())
 }
@@ -76,17 +81,40 @@ fn an_edge_has_one_number_in_either_order(rt: HostRuntime) {
     }
 }
 
+/// A fact: two nodes and a set.
+type FactRow = (u32, u32, u64);
+
+/// The facts of these rows.
+fn facts_of(alloc: Global, rows: &[FactRow]) -> Result<Vec<Fact>, NetFault> {
+    let mut facts = Vec::new(alloc);
+    for (i, j, word) in rows {
+        facts
+            .push(fact(*i, *j, *word))
+            .map_err(|_| NetFault::Memory)?;
+    }
+    Ok(facts)
+}
+
+/// Whether each fact has a set of the calculus.
+fn are_of_the_calculus(c: &Calculus, facts: &[Fact]) -> bool
+    ensures { IsTrue result
+        → All (λ fact. IsWithin fact.rel (full_of c.now.algebra)) facts.now }
+{
+    let full = c.full();
+    facts.iter().all(|fact| fact.rel.within(full))
+}
+
 /// Adds facts over the calculus to the network.
-fn add(
-    rt: &impl Abort,
-    alloc: Global,
-    c: &Calculus,
-    net: &mut Net,
-    rows: &[FactRow],
-) -> Result<(), NetFault> {
-    let facts = facts_of(alloc, rows).map_err(|_| NetFault::Memory)?;
-    assert!(rt; facts.len() <= 3 && are_of_the_calculus(c, &facts));
-    net.add_facts(c, &facts)
+fn add_facts(rt: &impl Abort, c: &Calculus, net: &mut Net, facts: &[Fact]) -> Result<(), NetFault> {
+    assert!(rt; facts.len() <= 3 && are_of_the_calculus(c, facts));
+    net.add_facts(c, facts)
+}
+
+/// Adds the facts of these rows to the network.
+fn add(rt: &impl Abort, alloc: Global, net: &mut Net, rows: &[FactRow]) -> Result<(), NetFault> {
+    let c = point(alloc).map_err(|_| NetFault::Memory)?;
+    let facts = facts_of(alloc, rows)?;
+    add_facts(rt, &c, net, &facts)
 }
 
 /// Three facts of four nodes.
@@ -96,15 +124,15 @@ const FACTS: [FactRow; 3] = [(2, 0, BEFORE | SAME), (0, 2, SAME | AFTER), (1, 3,
 const NARROWED: [u64; 6] = [ANY, SAME | AFTER, ANY, ANY, BEFORE, ANY];
 
 /// Four nodes, narrowed by the facts.
-fn narrowed(rt: &impl Abort, alloc: Global, c: &Calculus) -> Result<Net, NetFault> {
+fn narrowed(rt: &impl Abort, alloc: Global) -> Result<Net, NetFault> {
     let mut net = four_nodes(alloc)?;
-    add(rt, alloc, c, &mut net, &FACTS)?;
+    add(rt, alloc, &mut net, &FACTS)?;
     Ok(net)
 }
 
 #[test]
 fn facts_narrow_either_way_round(rt: HostRuntime) -> Result<(), Fail> {
-    let net = narrowed(&rt, rt.alloc(), &point(rt.alloc())?)?;
+    let net = narrowed(&rt, rt.alloc())?;
     assert_words(&rt, net.words(), &NARROWED);
     assert_words(&rt, net.copy()?.words(), &NARROWED);
     Ok(())
@@ -121,21 +149,19 @@ const FAULTY: [(&[FactRow], NetFault); 2] = [
 
 #[test]
 fn the_first_faulty_fact_is_told_and_none_is_added(rt: HostRuntime) -> Result<(), Fail> {
-    let c = point(rt.alloc())?;
-    let mut net = narrowed(&rt, rt.alloc(), &c)?;
+    let mut net = narrowed(&rt, rt.alloc())?;
     for (rows, fault) in FAULTY {
-        assert_eq!(rt; add(&rt, rt.alloc(), &c, &mut net, rows), Err(fault));
+        assert_eq!(rt; add(&rt, rt.alloc(), &mut net, rows), Err(fault));
         assert_words(&rt, net.words(), &NARROWED);
     }
     Ok(())
 }
 
 /// Owned names.
-fn names_of(alloc: Global, words: &[&str]) -> Result<Vec<String>, Memory> {
+fn names_of(alloc: Global, words: &[&str]) -> Result<Vec<String>, AllocError> {
     let mut names = Vec::new(alloc);
     for word in words {
-        let name = String::from_str(alloc, word).map_err(|_| Memory)?;
-        names.push(name).map_err(|_| Memory)?;
+        names.push(String::from_str(alloc, word)?)?;
     }
     Ok(names)
 }

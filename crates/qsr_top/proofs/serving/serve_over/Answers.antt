@@ -2,7 +2,7 @@ use Rattle.std.proofs.Common.{ap, Err, sym, ◌∙◌, arith, subst}
 use Rattle.std.specs.String.{string_bytes}
 use Rattle.std.proofs.lemmas.Result.{err_from_is_err_and}
 use Rattle.qsr_words.specs.Requests.{serve_of}
-use Rattle.session_run.specs.Batches.{IsBatch}
+use Rattle.session_scripts.specs.Batches.{IsBatch}
 use Rattle.qsr_top.proofs.AnsweredSoFar.{serving_first, serves_nothing, serves_err, serves_done, serves_stop, serves_unanswered, serves_part, serving_next, some_room, new_within}
 use Rattle.qsr_top.proofs.serving.serve_over.Goals as goal
 

@@ -1,9 +1,9 @@
 -- One line more is dealt.
 use Rattle.std.proofs.Common.{◌≡◌, ◌+◌, ◌<◌, ◌≤◌, List, length, take, get_or, ap, ◌∙◌, subst, sym, arith, Vec}
 use Rattle.std.specs.Global.{Global}
+use Rattle.session_scripts.specs.declared.batch.Line.{Line}
+use Rattle.session_scripts.specs.Batches.{BatchState}
 use Rattle.session_run.specs.declared.steps.Step.{Step}
-use Rattle.session_run.specs.declared.batch.Line.{Line}
-use Rattle.session_run.specs.Batches.{BatchState}
 use Rattle.session_run.specs.Phase.{asked_of, steps_of}
 use Rattle.session_run.specs.Steps.{AreDealt}
 use Rattle.session_run.proofs.Dealt.{AreDealt-own, AreDealt-passed, asked_of-more, length-asked_of}

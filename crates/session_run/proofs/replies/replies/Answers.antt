@@ -1,7 +1,8 @@
 use Rattle.std.proofs.Common.{◌≡◌, ◌+◌, ◌<◌, ◌≤◌, ◌++◌, length, get_or, take, sym, ◌∙◌, ap, refl, arith}
 use Rattle.std.specs.String.{string_bytes}
 use Rattle.session_versions.specs.Stores.{committing}
-use Rattle.session_run.specs.Replies.{session_name, draft_of, after_withdrawals, reply_to, reply_line}
+use Rattle.session_scripts.specs.Batches.{session_name}
+use Rattle.session_run.specs.Replies.{draft_of, after_withdrawals, reply_to, reply_line}
 use Rattle.session_run.proofs.RepliesOfLines.{length-withdrawal_faults, fault-at, replies-appended, replies-ended}
 use Rattle.session_run.proofs.replies.replies.Goals as goal
 

@@ -1,0 +1,5 @@
+pub mod NamedSessions
+pub mod Lines
+pub mod Readings
+pub mod Fitting
+pub mod BytesGiven

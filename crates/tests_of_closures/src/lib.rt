@@ -1,0 +1,12 @@
+//! Tests of closures: on one thread, of words that threads narrow at once, and by workers.
+
+#![tactic(auto)]
+
+#[cfg(test)]
+mod closures;
+#[cfg(test)]
+mod edge_words;
+#[cfg(test)]
+mod nets;
+#[cfg(test)]
+mod workers;

@@ -1,5 +1,0 @@
-use Rattle.closure_seq.specs.Copies.{IsSettledCopy}
-use Rattle.tests_of_networks.proofs.closures.looks_at_an_eighth.Given as goal
-
-abbrev pub invariant-loop : goal.invariant-loop
-invariant-loop g l = IsSettledCopy l.c.algebra l.copy
