@@ -10,7 +10,7 @@
 //! are stated. Then edges are taken off the queue.
 
 ghost use Rattle.std.specs.Prelude.{◌≡◌, ◌*◌, ◌<◌, ◌≤◌, length, IsTrue};
-ghost use Rattle.network_words.specs.Edge.{edge_count};
+ghost use Rattle.network_words.specs.Edge.{edge_count, IsProperPair};
 ghost use Rattle.network_words.specs.declared.TheConstants.{MAX_NODES};
 ghost use Rattle.compose_fast.specs.Planes.{AreBaseTables};
 ghost use Rattle.closure_seq.specs.Propagation.{AreConverses, IsReady, IsRefinement, IsStep, IsSettled, IsRowSettled};
@@ -18,13 +18,13 @@ ghost use Rattle.closure_seq.specs.Paths.{IsPlanes};
 ghost use Rattle.closure_seq.specs.Copies.{IsMet};
 
 use crate::loading::{is_stored, load_planes};
-use crate::meeting::meet;
+use crate::meeting::{meet, meet_pair};
 use crate::order::Proposals;
 use crate::pairs::{Note, PairSets};
 use crate::propagation::propagate_noted;
 use crate::span::{Span, rows_of};
 use crate::sweeping::{Sweep, sweep_row};
-use calculus_table::{Compose, Memory, lawful};
+use calculus_table::{Compose, Memory, Rel, lawful};
 use compose_fast::Tables;
 use std::alloc::Global;
 use std::marker::Model;
@@ -45,6 +45,25 @@ fn meet_planes<C: Compose>(pairs: &mut PairSets, words: &[u64], c: &C)
         meet::<C, 4>(pairs, c, words);
     } else {
         meet::<C, 8>(pairs, c, words);
+    }
+}
+
+/// Intersects the set of `(i, j)` with another, for the number of planes that the sets are kept in.
+fn meet_pair_planes<C: Compose>(pairs: &mut PairSets, c: &C, i: u32, j: u32, rel: Rel)
+    requires planes { IsPlanes pairs.old.planes }
+    requires sets { AreConverses (C.algebra c.now) pairs.old }
+    requires proper { IsProperPair pairs.old.nodes i j }
+    ensures { IsMet (C.algebra c.now) pairs.old pairs.new }
+{
+    let planes = pairs.planes();
+    if planes == 1 {
+        meet_pair::<C, 1>(pairs, c, i, j, rel);
+    } else if planes == 2 {
+        meet_pair::<C, 2>(pairs, c, i, j, rel);
+    } else if planes == 4 {
+        meet_pair::<C, 4>(pairs, c, i, j, rel);
+    } else {
+        meet_pair::<C, 8>(pairs, c, i, j, rel);
     }
 }
 
@@ -257,6 +276,19 @@ impl SliceCopy {
     {
         self.since = self.pairs.taken();
         meet_planes(&mut self.pairs, words, c);
+    }
+
+    /// Takes over the word of the edge from `i` to `j` where it is less than the copy's set, and queues the edge.
+    pub fn catch_up_edge<C: Compose>(&mut self, c: &C, i: u32, j: u32, word: u64)
+        requires is_open { IsOpenCopy (C.algebra c.now) self.old }
+        requires order { i < j }
+        requires below { j < self.old.slice.nodes }
+        ensures is_open { IsOpenCopy (C.algebra c.now) self.new }
+        ensures settled { IsSettledCopy (C.algebra c.now) self.old → IsSettledCopy (C.algebra c.now) self.new }
+        ensures slice { self.new.slice ≡ self.old.slice }
+        ensures rows { self.new.rows ≡ self.old.rows }
+    {
+        meet_pair_planes(&mut self.pairs, c, i, j, Rel::of(word));
     }
 
     /// Narrows the edges of the slice until they are closed, or there is no room for notes of more. Returns whether no

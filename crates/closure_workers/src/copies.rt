@@ -85,6 +85,93 @@ fn narrow_noted<C: Compose>(
     }
 }
 
+/// Reads the words of the edges from `i` to greater nodes again, and takes what became less over into the copy. Returns
+/// whether the pass has seen less.
+fn read_row<C: Compose>(
+    table: &OpenNet,
+    pass: &mut Pass,
+    c: &C,
+    snap: &mut Snapshot,
+    copy: &mut SliceCopy,
+    i: u32,
+) -> bool
+    requires pass { IsPassOf table.now pass.old }
+    requires snap { snap.old ≡ pass.old.actor.seen }
+    requires is_open { IsOpenCopy (C.algebra c.now) copy.old }
+    requires nodes { copy.old.slice.nodes ≡ table.now.opening.nodes }
+    requires below { i < table.now.opening.nodes }
+    ensures pass { IsPassOf table.now pass.new }
+    ensures reads { ReadsAll pass.old pass.new }
+    ensures snap { snap.new ≡ pass.new.actor.seen }
+    ensures is_open { IsOpenCopy (C.algebra c.now) copy.new }
+    ensures settled { IsSettledCopy (C.algebra c.now) copy.old → IsSettledCopy (C.algebra c.now) copy.new }
+    ensures slice { copy.new.slice ≡ copy.old.slice }
+{
+    let mut less = false;
+    let nodes = table.nodes();
+    for j in i + 1..nodes {
+        if let Some(word) = table.look_again(pass, snap, i, j) {
+            copy.catch_up_edge(c, i, j, word);
+            less = true;
+        }
+    }
+    less
+}
+
+/// Reads every word again, and takes what became less over into the copy. Returns whether the pass has seen less.
+fn read_all<C: Compose>(
+    table: &OpenNet,
+    pass: &mut Pass,
+    c: &C,
+    snap: &mut Snapshot,
+    copy: &mut SliceCopy,
+) -> bool
+    requires pass { IsPassOf table.now pass.old }
+    requires snap { snap.old ≡ pass.old.actor.seen }
+    requires is_open { IsOpenCopy (C.algebra c.now) copy.old }
+    requires nodes { copy.old.slice.nodes ≡ table.now.opening.nodes }
+    ensures pass { IsPassOf table.now pass.new }
+    ensures reads { ReadsAll pass.old pass.new }
+    ensures snap { snap.new ≡ pass.new.actor.seen }
+    ensures is_open { IsOpenCopy (C.algebra c.now) copy.new }
+    ensures settled { IsSettledCopy (C.algebra c.now) copy.old → IsSettledCopy (C.algebra c.now) copy.new }
+    ensures slice { copy.new.slice ≡ copy.old.slice }
+{
+    let mut less = false;
+    for i in 0..table.nodes() {
+        less |= read_row(table, pass, c, snap, copy, i);
+    }
+    less
+}
+
+/// Reads every word again, up to so many times until the pass has seen less. Returns whether it has.
+fn read_again<C: Compose>(
+    table: &OpenNet,
+    pass: &mut Pass,
+    c: &C,
+    snap: &mut Snapshot,
+    copy: &mut SliceCopy,
+    times: u32,
+) -> bool
+    requires pass { IsPassOf table.now pass.old }
+    requires snap { snap.old ≡ pass.old.actor.seen }
+    requires is_open { IsOpenCopy (C.algebra c.now) copy.old }
+    requires nodes { copy.old.slice.nodes ≡ table.now.opening.nodes }
+    ensures pass { IsPassOf table.now pass.new }
+    ensures reads { ReadsAll pass.old pass.new }
+    ensures snap { snap.new ≡ pass.new.actor.seen }
+    ensures is_open { IsOpenCopy (C.algebra c.now) copy.new }
+    ensures settled { IsSettledCopy (C.algebra c.now) copy.old → IsSettledCopy (C.algebra c.now) copy.new }
+    ensures slice { copy.new.slice ≡ copy.old.slice }
+{
+    for _time in 0..times {
+        if read_all(table, pass, c, snap, copy) {
+            return true;
+        }
+    }
+    false
+}
+
 /// Narrows the words as the copy was narrowed since its notes were forgotten, and forgets them.
 fn follow<C: Compose>(
     table: &OpenNet,
@@ -164,9 +251,7 @@ fn sweep_slice<C: Compose>(
     if !sweep_rows(table, pass, c, snap, copy, Sweep::First) {
         return false;
     }
-    if times > 0 && table.refresh_again(pass, snap) {
-        copy.catch_up(c, snap.words());
-    }
+    read_again(table, pass, c, snap, copy, times.min(1));
     sweep_rows(table, pass, c, snap, copy, Sweep::Whole)
 }
 
@@ -181,24 +266,6 @@ fn after_empty(nodes: u32, words: &[u64]) -> Turn
     } else {
         Turn::Unknown
     }
-}
-
-/// Reads every word again, up to so many times until the pass has seen less. Returns whether it has.
-fn read_again(table: &OpenNet, pass: &mut Pass, snap: &mut Snapshot, times: u32) -> bool
-    requires pass { IsPassOf table.now pass.old }
-    requires snap { snap.old ≡ pass.old.actor.seen }
-    requires length_is { length snap.old ≡ edge_count table.now.opening.nodes }
-    ensures pass { IsPassOf table.now pass.new }
-    ensures snap { snap.new ≡ pass.new.actor.seen }
-    ensures length_is { length snap.new ≡ edge_count table.now.opening.nodes }
-    ensures reads { ReadsAll pass.old pass.new }
-{
-    for _time in 0..times {
-        if table.refresh_again(pass, snap) {
-            return true;
-        }
-    }
-    false
 }
 
 /// Closes the slice on the copy, narrows the words as it did, and reads every word again if the copy has nothing left
@@ -236,12 +303,14 @@ fn take_turn<C: Compose>(
     if !idle && (times < 2 || !copy.is_due()) {
         return Turn::More;
     }
-    let brought = read_again(table, pass, snap, if idle { times } else { 1 });
-    if !brought && copy.matches(c, snap.words()) {
+    if read_again(table, pass, c, snap, copy, if idle { times } else { 1 }) {
+        return Turn::More;
+    }
+    if copy.matches(c, snap.words()) {
         return Turn::Closed;
     }
     copy.catch_up(c, snap.words());
-    if !brought && copy.is_idle() {
+    if copy.is_idle() {
         return Turn::Unknown;
     }
     Turn::More

@@ -220,6 +220,34 @@ impl OpenNet {
         less
     }
 
+    /// Loads the word of the edge from `i` to `j` again. Returns it where the pass has then seen less of the edge.
+    #[inline(always)]
+    pub fn look_again(
+        &self,
+        pass: &mut Pass,
+        snap: &mut Snapshot,
+        i: u32,
+        j: u32,
+    ) -> Option<u64>
+        requires pass { IsPassOf self.now pass.old }
+        requires snap { snap.old ≡ pass.old.actor.seen }
+        requires order { i < j }
+        requires below { j < self.now.opening.nodes }
+        ensures pass { IsPassOf self.now pass.new }
+        ensures reads { ReadsAll pass.old pass.new }
+        ensures snap { snap.new ≡ pass.new.actor.seen }
+    {
+        // The proof needs what every pass keeps, which a use of its fields brings.
+        let _weight = &pass.weight;
+        let edge = edge_between(self.nodes, i, j);
+        let word = self.load(pass, edge);
+        if snap.take(edge, word) {
+            Some(word)
+        } else {
+            None
+        }
+    }
+
     /// Two passes that have seen what this one has: the first keeps its facts and the rest of its
     /// weight, the second has the weight `left` and has stated nothing.
     pub fn split(&self, pass: Pass, left: u32) -> (Pass, Pass)
