@@ -15,7 +15,7 @@ use Rattle.session_versions.specs.Stores.{StoreState}
 use Rattle.session_scripts.specs.Batches.{BatchState, IsBatch}
 use Rattle.session_scripts.specs.Readers.{ReaderState, new_reader, given_to, ReadsNext}
 use Rattle.session_scripts.specs.declared.TheConstants.{PIECE}
-use Rattle.session_run.specs.Replies.{IsAnswered, AreAnswered}
+use Rattle.session_replies.specs.Replies.{IsAnswered, AreAnswered}
 use Rattle.qsr_inputs.specs.declared.statuses.Status.{Status}
 use Rattle.qsr_inputs.specs.declared.statuses.Status.TheVariants.{Done, ReadFault, WriteFault, Memory, TooLong}
 use Rattle.qsr_inputs.proofs.Naming.{IfSome-weaker}

@@ -12,7 +12,7 @@ use Rattle.session_versions.specs.Stores.{StoreState}
 use Rattle.session_scripts.specs.Batches.{BatchState}
 use Rattle.session_scripts.specs.Readers.{ReaderState, EndsAtCommit, EndsAtEnd, CutsBatch, HasNoBatch}
 use Rattle.session_scripts.specs.declared.TheConstants.{PIECE}
-use Rattle.session_run.specs.Replies.{IsAnswered, AreAnswered}
+use Rattle.session_replies.specs.Replies.{IsAnswered, AreAnswered}
 use Rattle.qsr_inputs.specs.declared.statuses.Status.TheVariants.{Done, TooLong}
 use Rattle.qsr_inputs.proofs.Naming.{none_first, none_second}
 use Rattle.qsr_top.specs.Serving.{first_store, batches_in, committed_in, WritesServed, WritesGiven, WritesFirst, WritesPartOfBatch}

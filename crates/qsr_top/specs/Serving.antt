@@ -13,7 +13,7 @@ use Rattle.session_versions.specs.Stores.{StoreState}
 use Rattle.session_scripts.specs.Batches.{BatchState}
 use Rattle.session_scripts.specs.Scripts.{batches_of, committed_of}
 use Rattle.session_scripts.specs.declared.TheConstants.{PIECE}
-use Rattle.session_run.specs.Replies.{IsAnswered, AreAnswered}
+use Rattle.session_replies.specs.Replies.{IsAnswered, AreAnswered}
 use Rattle.qsr_inputs.specs.Inputs.{CalculusOf}
 use Rattle.qsr_inputs.specs.declared.statuses.Status.{Status}
 use Rattle.qsr_inputs.specs.declared.statuses.Status.TheVariants.{Done, ReadFault, WriteFault, Memory, TooLong}

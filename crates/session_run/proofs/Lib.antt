@@ -5,6 +5,3 @@ pub mod StatedFacts
 pub mod Made
 pub mod Taken
 pub mod SessionLists
-pub mod FactsOfLines
-pub mod KeptAfter
-pub mod RepliesOfLines

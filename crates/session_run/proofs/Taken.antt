@@ -18,7 +18,7 @@ use Rattle.edge_table.specs.Passes.{seen_between, Reads, Asserts}
 use Rattle.session_scripts.specs.declared.batch.What.{What}
 use Rattle.session_scripts.specs.declared.batch.What.TheVariants.{Assert, Peek, Withdraw, Ask, Refused}
 use Rattle.session_run.specs.declared.steps.Step.{Step}
-use Rattle.session_run.specs.Replies.{IsShown, told_after, AreShown}
+use Rattle.session_replies.specs.Replies.{IsShown, told_after, AreShown}
 use Rattle.session_run.specs.Phase.{asked_by, shown_by, fact_of, facts_of_session, told_by, IsTaken, AreTaken}
 
 -- ---- one line more

@@ -1,4 +1,2 @@
-pub mod Replies
 pub mod Phase
 pub mod Steps
-pub mod Drafting

@@ -18,7 +18,7 @@ use Rattle.session_scripts.specs.Batches.{IsAsked}
 use Rattle.session_run.specs.declared.steps.Step.{Step}
 use Rattle.session_run.specs.declared.sessions.Session.{Session}
 use Rattle.session_run.specs.declared.pieces.Piece.{Piece}
-use Rattle.session_run.specs.Replies.{IsShown, told_after, AreShown}
+use Rattle.session_replies.specs.Replies.{IsShown, told_after, AreShown}
 
 -- ---- steps of sessions
 

@@ -1,7 +1,7 @@
 //! The lines of a batch, dealt to its sessions, and the sets that its lines show, put back.
 ghost use Rattle.std.specs.Prelude.{◌≡◌, ◌<◌, ◌++◌, ◌∷◌, [], ℕ, IfOk, OnOk, length, replicate, slice_index_or};
 ghost use Rattle.std.specs.List.{zip};
-ghost use Rattle.session_run.specs.Replies.{said_by};
+ghost use Rattle.session_replies.specs.Replies.{said_by};
 ghost use Rattle.session_run.specs.declared.steps.Step.{Step};
 ghost use Rattle.session_run.specs.Phase.{asked_by, shown_by, asked_of, steps_of};
 ghost use Rattle.session_run.specs.Steps.{AreDealt};

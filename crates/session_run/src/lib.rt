@@ -7,12 +7,10 @@
 #![tactic(auto)]
 
 mod dealing;
-mod drafts;
 mod opening;
 mod phase;
 mod pieces;
 mod points;
-mod replies;
 mod run;
 mod sessions;
 mod steps;

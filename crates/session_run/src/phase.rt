@@ -21,7 +21,7 @@ ghost use Rattle.network_words.specs.Network.{IsNetwork};
 ghost use Rattle.network_words.specs.Closure.{IsClosed};
 ghost use Rattle.edge_table.specs.Opening.{algebra_of};
 ghost use Rattle.closure_workers.specs.Pieces.{AreHeld};
-ghost use Rattle.session_run.specs.Replies.{AreShown};
+ghost use Rattle.session_replies.specs.Replies.{AreShown};
 ghost use Rattle.session_run.specs.Phase.{IsStepFor, steps_of, shown_by, asked_of, facts_stated, AreShownAbove};
 ghost use Rattle.session_run.specs.Phase.{IsSession, HasRun, asked_of_sessions, IsPiece, HasWorked};
 ghost use Rattle.session_run.specs.Phase.{AreNarrowed, IsClosureWithin};

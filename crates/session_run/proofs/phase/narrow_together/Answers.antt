@@ -3,7 +3,7 @@ use Rattle.std.proofs.lemmas.List.Elements.{All-weaker}
 use Rattle.network_words.specs.Network.{Network}
 use Rattle.network_words.specs.Closure.{IsClosure}
 use Rattle.session_run.specs.declared.steps.Step.{Step}
-use Rattle.session_run.specs.Replies.{AreShown}
+use Rattle.session_replies.specs.Replies.{AreShown}
 use Rattle.session_run.specs.Phase.{steps_of, shown_by, facts_stated, AreShownAbove}
 use Rattle.session_run.proofs.Narrowings.{IsClosureWithin-closed}
 use Rattle.session_run.proofs.phase.narrow_together.Goals as goal

@@ -2,9 +2,9 @@ use Rattle.std.proofs.Common.{◌≡◌, ◌+◌, ◌<◌, ◌≤◌, ◌++◌, 
 use Rattle.std.specs.String.{string_bytes}
 use Rattle.session_versions.specs.Stores.{committing}
 use Rattle.session_scripts.specs.Batches.{session_name}
-use Rattle.session_run.specs.Replies.{draft_of, after_withdrawals, reply_to, reply_line}
-use Rattle.session_run.proofs.RepliesOfLines.{length-withdrawal_faults, fault-at, replies-appended, replies-ended}
-use Rattle.session_run.proofs.replies.replies.Goals as goal
+use Rattle.session_replies.specs.Replies.{draft_of, after_withdrawals, reply_to, reply_line}
+use Rattle.session_replies.proofs.RepliesOfLines.{length-withdrawal_faults, fault-at, replies-appended, replies-ended}
+use Rattle.session_replies.proofs.reply.replies.Goals as goal
 
 pub bounds-faults-place : goal.bounds-faults-place
 bounds-faults-place g c =

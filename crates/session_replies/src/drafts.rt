@@ -1,9 +1,9 @@
 //! The facts of the version that a batch makes: first the withdrawals of its lines are tried, one after another, and
 //! then its facts are put in.
 ghost use Rattle.std.specs.Prelude.{◌≡◌, ◌+◌, ◌<◌, ◌≤◌, ◌^◌, length, IfOk, OnOk};
-ghost use Rattle.session_run.specs.Replies.{withdrawn_by, withdrawal_fault, withdrawal_faults, after_withdrawals};
-ghost use Rattle.session_run.specs.Replies.{stated_by, after_facts};
-ghost use Rattle.session_run.specs.Drafting.{LosesFacts, GainsFacts};
+ghost use Rattle.session_replies.specs.Replies.{withdrawn_by, withdrawal_fault, withdrawal_faults, after_withdrawals};
+ghost use Rattle.session_replies.specs.Replies.{stated_by, after_facts};
+ghost use Rattle.session_replies.specs.Drafting.{LosesFacts, GainsFacts};
 
 use calculus_table::Memory;
 use session_scripts::{Batch, What};
@@ -12,7 +12,7 @@ use std::alloc::Global;
 
 /// Takes out the facts that the lines of a batch withdraw, and returns the fault of each line's withdrawal, if it has
 /// one that is refused.
-pub(crate) fn withdraw_all(
+pub fn withdraw_all(
     alloc: Global,
     draft: &mut Draft,
     batch: &Batch,
@@ -32,7 +32,7 @@ pub(crate) fn withdraw_all(
 }
 
 /// Puts in the facts that the lines of a batch state.
-pub(crate) fn add_all(draft: &mut Draft, batch: &Batch) -> Result<(), Memory>
+pub fn add_all(draft: &mut Draft, batch: &Batch) -> Result<(), Memory>
     requires { draft.old.next + length batch.now.lines ≤ 2 ^ 63 }
     ensures draft { OnOk result
         (draft.new ≡ after_facts batch.now.sessions batch.now.lines draft.old) }

@@ -9,7 +9,7 @@ use Rattle.session_versions.specs.Versions.{AreProper}
 use Rattle.session_versions.specs.Stores.{StoreState}
 use Rattle.session_scripts.specs.declared.batch.Line.{Line}
 use Rattle.session_scripts.specs.Batches.{IsLineFor}
-use Rattle.session_run.specs.Replies.{facts_of_lines}
+use Rattle.session_replies.specs.Replies.{facts_of_lines}
 
 -- some facts are gone, or none is, and then the draft is as before
 pub record LosesFacts (old new : DraftState) : Type 0 where

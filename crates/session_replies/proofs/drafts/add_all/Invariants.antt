@@ -1,6 +1,6 @@
 use Rattle.std.proofs.Common.{◌≡◌, ◌+◌, ◌≤◌, drop}
-use Rattle.session_run.specs.Replies.{after_facts}
-use Rattle.session_run.proofs.drafts.add_all.Given as goal
+use Rattle.session_replies.specs.Replies.{after_facts}
+use Rattle.session_replies.proofs.drafts.add_all.Given as goal
 
 abbrev pub invariant-loop-line : goal.invariant-loop-line
 invariant-loop-line l = record {

@@ -15,8 +15,8 @@ use Rattle.session_scripts.specs.declared.batch.What.{What}
 use Rattle.session_scripts.specs.declared.batch.What.TheVariants.{Assert, Peek, Withdraw, Ask, Refused}
 use Rattle.session_scripts.specs.declared.batch.Line.{Line}
 use Rattle.session_scripts.specs.Batches.{session_name, IsAsked, IsLineFor}
-use Rattle.session_run.specs.Drafting.{LosesFacts, GainsFacts}
-use Rattle.session_run.specs.Replies.{withdrawn_if, withdrawn_by, after_withdrawals, stated_by, after_facts, facts_of_line, facts_of_lines}
+use Rattle.session_replies.specs.Drafting.{LosesFacts, GainsFacts}
+use Rattle.session_replies.specs.Replies.{withdrawn_if, withdrawn_by, after_withdrawals, stated_by, after_facts, facts_of_line, facts_of_lines}
 
 -- ---- filters
 

@@ -19,8 +19,8 @@ use Rattle.session_scripts.specs.declared.batch.What.{What}
 use Rattle.session_scripts.specs.declared.batch.What.TheVariants.{Assert, Peek, Withdraw, Ask, Refused}
 use Rattle.session_scripts.specs.declared.batch.Line.{Line}
 use Rattle.session_scripts.specs.Batches.{BatchState, session_name}
-use Rattle.session_run.specs.declared.replies.Reply.{Reply}
-use Rattle.session_run.specs.declared.replies.Reply.TheVariants.{NewFact, Shown, Withdrawn, AtVersion, Refusal}
+use Rattle.session_replies.specs.declared.reply.Reply.{Reply}
+use Rattle.session_replies.specs.declared.reply.Reply.TheVariants.{NewFact, Shown, Withdrawn, AtVersion, Refusal}
 
 -- ---- the facts of the version that a batch makes
 

@@ -1,6 +1,6 @@
 use Rattle.std.proofs.Common.{◌≤◌, length, arith}
-use Rattle.session_run.proofs.FactsOfLines.{GainsFacts-looped}
-use Rattle.session_run.proofs.drafts.add_all.Goals as goal
+use Rattle.session_replies.proofs.FactsOfLines.{GainsFacts-looped}
+use Rattle.session_replies.proofs.drafts.add_all.Goals as goal
 
 pub returns-clause-gains : goal.returns-clause-gains
 returns-clause-gains c =

@@ -3,8 +3,8 @@ use Rattle.std.specs.List.{zip}
 use Rattle.std.specs.String.{string_bytes}
 use Rattle.session_versions.specs.Drafts.{DraftState}
 use Rattle.session_versions.specs.Stores.{committing}
-use Rattle.session_run.specs.Replies.{draft_of, after_withdrawals, replies}
-use Rattle.session_run.proofs.replies.replies.Given as goal
+use Rattle.session_replies.specs.Replies.{draft_of, after_withdrawals, replies}
+use Rattle.session_replies.proofs.reply.replies.Given as goal
 
 abbrev pub invariant-loop-place : goal.invariant-loop-place
 invariant-loop-place g l = record {

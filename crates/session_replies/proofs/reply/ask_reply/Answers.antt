@@ -2,10 +2,10 @@ use Rattle.std.proofs.Common.{◌≡◌, ◌≢◌, ◌+◌, ◌<◌, ◌≤◌,
 use Rattle.std.proofs.lemmas.Bool.{cases_lt}
 use Rattle.network_words.specs.Network.{relation_between}
 use Rattle.session_versions.specs.declared.store.AskFault.TheVariants.{NotYet, VersionGone}
-use Rattle.session_run.specs.declared.replies.Reply.TheVariants.{AtVersion}
-use Rattle.session_run.proofs.KeptAfter.{ask_reply-newest, ask_reply-gone, ask_reply-older}
-use Rattle.session_run.proofs.replies.ask_reply.Goals as goal
-use Rattle.session_run.proofs.replies.ask_reply.Goals.{else-version-newest-2-via-then-version-newest-2+else-newest-version-eq-KEPT_VERSIONS, else-version-newest-2-via-else-version-newest-2}
+use Rattle.session_replies.specs.declared.reply.Reply.TheVariants.{AtVersion}
+use Rattle.session_replies.proofs.KeptAfter.{ask_reply-newest, ask_reply-gone, ask_reply-older}
+use Rattle.session_replies.proofs.reply.ask_reply.Goals as goal
+use Rattle.session_replies.proofs.reply.ask_reply.Goals.{else-version-newest-2-via-then-version-newest-2+else-newest-version-eq-KEPT_VERSIONS, else-version-newest-2-via-else-version-newest-2}
 
 pub returns-then-version-newest : goal.returns-then-version-newest
 returns-then-version-newest g c = λ draft.

@@ -8,7 +8,7 @@ use Rattle.session_versions.specs.Stores.{StoreState}
 use Rattle.session_versions.specs.declared.draft.WithdrawFault.{WithdrawFault}
 use Rattle.session_scripts.specs.declared.batch.Line.{Line}
 use Rattle.session_scripts.specs.Batches.{session_name}
-use Rattle.session_run.specs.Replies.{withdrawn_by, withdrawal_fault, withdrawal_faults, after_withdrawals, reply_to, reply_line, next_after, version_line, replies}
+use Rattle.session_replies.specs.Replies.{withdrawn_by, withdrawal_fault, withdrawal_faults, after_withdrawals, reply_to, reply_line, next_after, version_line, replies}
 
 -- ---- withdrawals
 

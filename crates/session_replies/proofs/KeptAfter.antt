@@ -8,8 +8,8 @@ use Rattle.session_versions.specs.Drafts.{DraftState}
 use Rattle.session_versions.specs.Versions.{VersionState, IsVersion}
 use Rattle.session_versions.specs.Stores.{StoreState, IsStore, AreInRow, kept_versions, version_with, committing}
 use Rattle.session_versions.proofs.Numbers.{AreInRow-push, AreInRow-drop, find-number}
-use Rattle.session_run.specs.declared.replies.Reply.TheVariants.{AtVersion, Refusal}
-use Rattle.session_run.specs.Replies.{ask_reply}
+use Rattle.session_replies.specs.declared.reply.Reply.TheVariants.{AtVersion, Refusal}
+use Rattle.session_replies.specs.Replies.{ask_reply}
 
 -- no element passes
 find-none : {X : Type 0} (p : X → Bool) (xs : List X) (d : X) → ((j : ℕ) → j < length xs → p (get_or xs j d) ≡ false) → find p xs ≡ None

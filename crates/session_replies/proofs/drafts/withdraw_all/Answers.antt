@@ -1,6 +1,6 @@
 use Rattle.std.proofs.Common.{◌≤◌, length, arith}
-use Rattle.session_run.proofs.FactsOfLines.{LosesFacts-looped}
-use Rattle.session_run.proofs.drafts.withdraw_all.Goals as goal
+use Rattle.session_replies.proofs.FactsOfLines.{LosesFacts-looped}
+use Rattle.session_replies.proofs.drafts.withdraw_all.Goals as goal
 
 pub returns-clause-loses : goal.returns-clause-loses
 returns-clause-loses c =

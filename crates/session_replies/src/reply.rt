@@ -11,9 +11,9 @@ ghost use Rattle.session_versions.specs.Drafts.{DraftState};
 ghost use Rattle.session_versions.specs.Stores.{committing};
 ghost use Rattle.session_versions.specs.Versions.{VersionState};
 ghost use Rattle.session_scripts.specs.Batches.{IsBatchFor, IsAsked};
-ghost use Rattle.session_run.specs.Drafting.{CanCommit};
-ghost use Rattle.session_run.specs.Replies.{draft_of, withdrawal_fault, withdrawal_faults, next_after, version_line};
-ghost use Rattle.session_run.specs.Replies.{withdrawal_reply, ask_reply, reply_to, reply_line, replies};
+ghost use Rattle.session_replies.specs.Drafting.{CanCommit};
+ghost use Rattle.session_replies.specs.Replies.{draft_of, withdrawal_fault, withdrawal_faults, next_after, version_line};
+ghost use Rattle.session_replies.specs.Replies.{withdrawal_reply, ask_reply, reply_to, reply_line, replies};
 
 use calculus_table::{Calculus, Compose, Memory, Rel};
 use named_sets::SetWriter;
@@ -43,7 +43,7 @@ pub(crate) enum Reply {
 /// The replies to the lines of a batch, written with the names of `names`, where the store is about to commit a version
 /// with the network `net`. Each line has the fault of its withdrawal, if it has one that is refused, and the set that
 /// it shows, which says nothing where it is no peek.
-pub(crate) fn replies<C: Compose>(
+pub fn replies<C: Compose>(
     alloc: Global,
     batch: &Batch,
     faults: &[Option<WithdrawFault>],

@@ -1,0 +1,3 @@
+pub mod FactsOfLines
+pub mod KeptAfter
+pub mod RepliesOfLines
