@@ -2,7 +2,7 @@ use Rattle.std.proofs.Common.{subst}
 use Rattle.calculus_table.specs.Rel.{IsWithin}
 use Rattle.calculus_table.specs.Composition.{full_of}
 use Rattle.calculus_table.proofs.Members.{full-member}
-use Rattle.tests_of_calculi.proofs.classes.parts_in.Goals as goal
+use Rattle.tests_of_calculus_files.proofs.classes.parts_in.Goals as goal
 
 pub parts-requires : goal.parts-requires
 parts-requires c r has =

@@ -4,7 +4,7 @@ ghost use Rattle.calculus_table.specs.Calculus.{AreDistinct};
 ghost use Rattle.geo_facts.specs.PolygonFile.{named_ring, names_of};
 ghost use Rattle.geo_facts.specs.declared.TheConstants.{MAX_POLYGONS};
 
-use crate::ring_texts::can_be_shared;
+use crate::asserts::{assert_same, assert_same_in};
 use calculus_table::Rel;
 use de9im::{Matrix, matrix};
 use geo_facts::{FactFault, GeoFault, Polygon, demo_net, facts, rcc8, read_polygons};
@@ -50,7 +50,7 @@ fn polygons(alloc: Global, text: &str) -> Result<Vec<Polygon>, GeoFault>
 /// A matrix and the relation that it says.
 fn named(rt: &(impl Abort + AllocGlobal), m: &Matrix) -> Result<String, Fail> {
     let rel = rcc8(m);
-    assert_eq!(rt; rel.count(), 1);
+    assert!(rt; rel.count() == 1);
     let name = NAMES
         .get(rel.least() as usize)
         .expect(rt, "a base relation");
@@ -61,7 +61,7 @@ fn named(rt: &(impl Abort + AllocGlobal), m: &Matrix) -> Result<String, Fail> {
 /// The matrix and the relation of the first two polygons of a text.
 fn related(rt: &(impl Abort + AllocGlobal), text: &str) -> Result<String, Fail> {
     let found = polygons(rt.alloc(), text)?;
-    assert_eq!(rt; found.len(), 2, "{text}");
+    assert!(rt; found.len() == 2, "{text}");
     let m = matrix(&found[0].ring, &found[1].ring)
         .ok()
         .expect(rt, "memory");
@@ -86,7 +86,7 @@ const RELATED: [(&str, &str, &str); 10] = [
 fn polygons_have_matrices_and_relations(rt: HostRuntime) -> Result<(), Fail> {
     for (first, second, expected) in RELATED {
         let text = format!(in rt.alloc(); "{first}{second}")?;
-        assert_eq!(rt; related(&rt, &text)?.as_str(), expected, "{text}");
+        assert_same_in(&rt, related(&rt, &text)?.as_str(), expected, text);
     }
     Ok(())
 }
@@ -118,11 +118,11 @@ const FORMS: [(&str, u32); 14] = [
 fn lines_have_the_form_of_a_polygon(rt: HostRuntime) -> Result<(), Fail> {
     for (text, line) in FORMS {
         let fault = GeoFault::Syntax { line };
-        assert_eq!(rt; read(rt.alloc(), text), Err(fault), "{text}");
+        assert_same_in(&rt, read(rt.alloc(), text), Err(fault), text);
     }
     let text = format!(in rt.alloc(); "{A}{B}\x07\n{C}")?;
     let fault = GeoFault::Syntax { line: 3 };
-    assert_eq!(rt; read(rt.alloc(), &text), Err(fault));
+    assert_same(&rt, read(rt.alloc(), &text), Err(fault));
     Ok(())
 }
 
@@ -182,7 +182,7 @@ const FAULTS: [(&str, GeoFault); 10] = [
 #[test]
 fn rings_have_faults(rt: HostRuntime) {
     for (text, fault) in FAULTS {
-        assert_eq!(rt; read(rt.alloc(), text), Err(fault), "{text}");
+        assert_same_in(&rt, read(rt.alloc(), text), Err(fault), text);
     }
 }
 
@@ -203,16 +203,16 @@ fn a_ring_has_256_vertices_at_most(rt: HostRuntime) -> Result<(), Fail> {
         line: 1,
         fault: RingFault::ManyVertices,
     };
-    assert_eq!(rt; read(rt.alloc(), &text), Err(fault));
+    assert_same(&rt, read(rt.alloc(), &text), Err(fault));
     Ok(())
 }
 
 #[test]
 fn the_first_faulty_line_decides(rt: HostRuntime) -> Result<(), Fail> {
-    assert_eq!(rt; read(rt.alloc(), ""), Ok(0));
+    assert_same(&rt, read(rt.alloc(), ""), Ok(0));
     let text = format!(in rt.alloc(); "{A}# twice\n{A}{B}x")?;
     let fault = GeoFault::NameTwice { line: 3 };
-    assert_eq!(rt; read(rt.alloc(), &text), Err(fault));
+    assert_same(&rt, read(rt.alloc(), &text), Err(fault));
     Ok(())
 }
 
@@ -244,11 +244,11 @@ const MANY: [(u32, &str, GeoFault); 3] = [
 
 #[test]
 fn a_file_has_128_polygons_at_most(rt: HostRuntime) -> Result<(), Fail> {
-    assert_eq!(rt; read(rt.alloc(), &squares(rt.alloc(), 128)?), Ok(128));
+    assert_same(&rt, read(rt.alloc(), &squares(rt.alloc(), 128)?), Ok(128));
     for (count, end, fault) in MANY {
         let mut text = squares(rt.alloc(), count)?;
         text.push_str(end)?;
-        assert_eq!(rt; read(rt.alloc(), &text), Err(fault), "{count} {end}");
+        assert_same_in(&rt, read(rt.alloc(), &text), Err(fault), (count, end));
     }
     Ok(())
 }
@@ -314,7 +314,7 @@ fn each_pair_of_polygons_has_its_fact(rt: HostRuntime) -> Result<(), Fail> {
     for (count, pairs) in PAIRS {
         let found = stated(&rt, count, count.saturating_add(1))?;
         let found = found.ok().expect(&rt, "facts");
-        assert_eq!(rt; found.len(), pairs);
+        assert_same(&rt, found.len(), pairs);
         let expected = expected_facts(rt.alloc(), count)?;
         assert!(rt; found == expected, "{count}");
     }
@@ -328,7 +328,7 @@ const NO_NODES: [(u32, u32); 3] = [(4, 3), (1, 0), (5, 4)];
 fn a_polygon_that_is_no_node_is_named(rt: HostRuntime) -> Result<(), Fail> {
     for (nodes, at) in NO_NODES {
         let fault = stated(&rt, 5, nodes)?.err();
-        assert_eq!(rt; fault, Some(FactFault::NoNode { at }));
+        assert_same(&rt, fault, Some(FactFault::NoNode { at }));
     }
     Ok(())
 }
@@ -346,10 +346,13 @@ fn a_seed_draws_a_network(rt: HostRuntime) {
     for (seed, nodes, words, kept) in DEMONSTRATIONS {
         assert!(rt; nodes >= 2 && nodes <= MAX_NODES);
         let (net, count) = demo_net(rt.alloc(), seed, nodes).ok().expect(&rt, "memory");
-        assert_eq!(rt; (net.nodes(), count), (nodes, kept));
-        assert_eq!(rt; net.words(), words, "{seed}");
+        assert_same(&rt, (net.nodes(), count), (nodes, kept));
+        assert_same_in(&rt, net.words(), words, seed);
     }
 }
+
+/// Does nothing. Who calls it shows that its type can be shared by threads.
+fn can_be_shared<T: Send + Sync>() {}
 
 #[test]
 fn polygons_can_be_shared() {

@@ -1,7 +1,7 @@
 use Rattle.std.proofs.Common.{◌≡◌, ◌^◌, ap, ◌∙◌, arith, inl, inr}
 use Rattle.std.proofs.lemmas.Bool.{cases_lt}
 use Rattle.tract_classes.proofs.FirstMembers.{is_member}
-use Rattle.tests_of_calculi.proofs.classes.has_bases.Goals as goal
+use Rattle.tests_of_calculus_files.proofs.classes.has_bases.Goals as goal
 
 pub loop-r-preserved : goal.loop-r-preserved
 loop-r-preserved c q l = elim (cases_lt q c.loop-r.r) [

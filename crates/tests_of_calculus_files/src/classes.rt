@@ -3,7 +3,7 @@ ghost use Rattle.std.specs.Prelude.{IsTrue};
 ghost use Rattle.calculus_table.specs.Calculus.{EachBase};
 ghost use Rattle.tract_classes.specs.Class.{HasBase};
 
-use crate::calculi::can_be_shared;
+use crate::asserts::{assert_same, assert_same_in};
 use calculus_builtin::{allen, point, rcc8};
 use calculus_table::{Calculus, Compose, Rel};
 use named_sets::SetWriter;
@@ -18,9 +18,9 @@ use tract_classes::{
 /// Asserts that a class has so many members, the empty set and the first set among them, and the second set not.
 fn has_members(rt: &impl Abort, class: &Class, len: u32, member: u64, other: u64) {
     let sizes = (class.len(), class.has(Rel::EMPTY));
-    assert_eq!(rt; sizes, (len, true));
+    assert_same(rt, sizes, (len, true));
     let has = (class.has(Rel::of(member)), class.has(Rel::of(other)));
-    assert_eq!(rt; has, (true, false), "{member:#b} and {other:#b} of {len}");
+    assert_same_in(rt, has, (true, false), (member, other, len));
 }
 
 #[test]
@@ -79,9 +79,9 @@ fn has_parts(
     expected: &[u64],
 ) -> Result<(), Fail> {
     let found = parts_in(alloc, class, &rcc8(alloc)?, Rel::of(set))?;
-    assert_eq!(rt; found.len(), expected.len(), "parts of {set:#b}");
+    assert_same_in(rt, found.len(), expected.len(), set);
     for (part, word) in found.iter().zip(expected) {
-        assert_eq!(rt; part.word(), *word, "parts of {set:#b}");
+        assert_same_in(rt, part.word(), *word, set);
     }
     Ok(())
 }
@@ -168,7 +168,7 @@ const FILES: [(&str, Result<u32, ClassFault>); 15] = [
 fn class_files_are_read_or_refused(rt: HostRuntime) -> Result<(), Fail> {
     let c = point(rt.alloc())?;
     for (text, expected) in FILES {
-        assert_eq!(rt; loaded(rt.alloc(), text, &c), expected, "{text}");
+        assert_same_in(&rt, loaded(rt.alloc(), text, &c), expected, text);
     }
     Ok(())
 }
@@ -183,7 +183,7 @@ fn has_fault(
 ) -> Result<(), Fail> {
     let [bases, more] = sets;
     let text = format!(in alloc; "{bases}{more}.\n")?;
-    assert_eq!(rt; loaded(alloc, &text, c), Err(fault), "{more}");
+    assert_same_in(rt, loaded(alloc, &text, c), Err(fault), more);
     Ok(())
 }
 
@@ -253,7 +253,7 @@ fn file_of(alloc: Global, c: &Calculus, class: &Class) -> Result<String, Fail> {
 /// Asserts that the class file of a class is read.
 fn is_closed(rt: &impl Abort, alloc: Global, c: &Calculus, class: &Class) -> Result<(), Fail> {
     let text = file_of(alloc, c, class)?;
-    assert_eq!(rt; loaded(alloc, &text, c), Ok(class.len()));
+    assert_same(rt, loaded(alloc, &text, c), Ok(class.len()));
     Ok(())
 }
 
@@ -290,10 +290,13 @@ fn a_class_has_1024_members_at_most(rt: HostRuntime) -> Result<(), Fail> {
     let c = allen(rt.alloc())?;
     for (from, below, fault) in MANY {
         let text = file_between(rt.alloc(), &c, from, below)?;
-        assert_eq!(rt; loaded(rt.alloc(), &text, &c), Err(fault));
+        assert_same(&rt, loaded(rt.alloc(), &text, &c), Err(fault));
     }
     Ok(())
 }
+
+/// Does nothing. Who calls it shows that its type can be shared by threads.
+fn can_be_shared<T: Send + Sync>() {}
 
 #[test]
 fn classes_can_be_shared() {

@@ -1,7 +1,7 @@
 //! Table files, the calculi that they have, and their faults.
 ghost use Rattle.std.specs.Prelude.{◌<◌};
 
-use crate::calculi::composed;
+use crate::asserts::{assert_same, assert_same_in};
 use calculus_builtin::{allen, point, rcc8};
 use calculus_load::LoadFault::{Missing, Syntax, TooMany, Twice, Unknown};
 use calculus_load::{LoadFault, read, text};
@@ -43,7 +43,7 @@ fn canonical(alloc: Global, rows: &[u8]) -> Result<String, LoadFault> {
 /// Asserts that each text, in which `|` stands for a line's end, is refused with its fault.
 fn are_refused(rt: &impl Abort, alloc: Global, rows: &[(&[u8], LoadFault)]) {
     for (text, fault) in rows {
-        assert_eq!(rt; read_rows(alloc, text).err(), Some(*fault), "{text:?}");
+        assert_same_in(rt, read_rows(alloc, text).err(), Some(*fault), text);
     }
 }
 
@@ -199,7 +199,7 @@ fn a_table_has_64_names_at_most(rt: HostRuntime) -> Result<(), Fail> {
     for (count, end, fault) in NAMES_LINES {
         let text = names_line(rt.alloc(), count, end)?;
         let found = read_all(rt.alloc(), text.as_bytes()).err();
-        assert_eq!(rt; found, Some(fault), "{count} names {end}");
+        assert_same_in(&rt, found, Some(fault), (count, end));
     }
     Ok(())
 }
@@ -209,7 +209,7 @@ fn a_name_has_64_bytes_at_most(rt: HostRuntime) -> Result<(), Fail> {
     for (length, fault) in [(64, Unknown { line: 2 }), (65, Syntax { line: 1 })] {
         let text = long_name(rt.alloc(), length)?;
         let found = read_all(rt.alloc(), text.as_bytes()).err();
-        assert_eq!(rt; found, Some(fault), "{length} bytes");
+        assert_same_in(&rt, found, Some(fault), length);
     }
     Ok(())
 }
@@ -228,7 +228,7 @@ const POINTS: &str =
 /// Asserts that what is read of a text has a canonical text. In both `|` stands for a line's end.
 fn is_written(rt: &impl Abort, alloc: Global, rows: &[u8], expected: &str) -> Result<(), Fail> {
     let expected = expected.replace(alloc, "|", "\n")?;
-    assert_eq!(rt; canonical(alloc, rows)?, expected);
+    assert_same(rt, canonical(alloc, rows)?, expected);
     Ok(())
 }
 
@@ -267,7 +267,7 @@ fn a_bent_table_of_rcc8_is_refused(rt: HostRuntime) -> Result<(), Fail> {
     let bent = rcc8_with(rt.alloc(), &[FIRST])?;
     let found = read_all(rt.alloc(), bent.as_bytes()).err();
     let fault = TableFault::ConverseLaw { r: 1, s: 4, t: 1 };
-    assert_eq!(rt; found, Some(LoadFault::Table(fault)));
+    assert_same(&rt, found, Some(LoadFault::Table(fault)));
     Ok(())
 }
 
@@ -276,7 +276,7 @@ fn a_table_of_rcc8_that_is_bent_twice_is_refused(rt: HostRuntime) -> Result<(), 
     let both = rcc8_with(rt.alloc(), &[FIRST, SECOND])?;
     let found = read_all(rt.alloc(), both.as_bytes()).err();
     let fault = TableFault::CycleLaw { r: 1, s: 1, t: 6 };
-    assert_eq!(rt; found, Some(LoadFault::Table(fault)));
+    assert_same(&rt, found, Some(LoadFault::Table(fault)));
     Ok(())
 }
 
@@ -284,7 +284,7 @@ fn a_table_of_rcc8_that_is_bent_twice_is_refused(rt: HostRuntime) -> Result<(), 
 fn is_read_again(rt: &impl Abort, alloc: Global, c: &Calculus) -> Result<(), LoadFault> {
     let file = text(alloc, c).map_err(|_| LoadFault::Memory)?;
     let again = canonical(alloc, file.as_bytes())?;
-    assert_eq!(rt; again, file);
+    assert_same(rt, again, file);
     Ok(())
 }
 
@@ -341,10 +341,11 @@ fn sums_text(alloc: Global) -> Result<String, AllocError> {
 fn a_table_of_64_relations_is_read_and_written(rt: HostRuntime) -> Result<(), Fail> {
     let file = sums_text(rt.alloc())?;
     let c = read_all(rt.alloc(), file.as_bytes())?;
-    assert_eq!(rt; c.full().word(), u64::MAX);
+    assert_same(&rt, c.full().word(), u64::MAX);
     let last = Rel::single(63);
-    assert_eq!(rt; composed(&rt, &c, last, last), Rel::single(62));
+    assert!(rt; last.within(c.full()));
+    assert_same(&rt, c.compose(last, last), Rel::single(62));
     let written = text(rt.alloc(), &c).map_err(|_| LoadFault::Memory)?;
-    assert_eq!(rt; written, file);
+    assert_same(&rt, written, file);
     Ok(())
 }

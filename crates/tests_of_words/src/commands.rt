@@ -1,4 +1,5 @@
 //! Words of the command line, and what they ask for.
+use crate::asserts::assert_same_in;
 use calculus_table::Memory;
 use qsr_words::{Check, Relate, Request, Solve, read};
 use std::alloc::{AllocError, Global};
@@ -45,10 +46,11 @@ fn words_of_close_are_taken(rt: HostRuntime) -> Result<(), Fail> {
         let Request::Close(close) = &request else {
             return Err(Fail::from("no network to close"));
         };
-        assert_eq!(rt;
+        assert_same_in(
+            &rt,
             (close.calculus.as_str(), close.workers),
             (calculus, workers),
-            "{words:?}"
+            words,
         );
     }
     Ok(())
@@ -119,7 +121,7 @@ fn words_of_solve_are_taken(rt: HostRuntime) -> Result<(), Fail> {
         let Request::Solve(solve) = &request else {
             return Err(Fail::from("no search"));
         };
-        assert_eq!(rt; search_of(solve), search, "{words:?}");
+        assert_same_in(&rt, search_of(solve), search, words);
     }
     Ok(())
 }
@@ -166,7 +168,7 @@ fn words_of_check_are_taken(rt: HostRuntime) -> Result<(), Fail> {
         let Request::Check(check) = &request else {
             return Err(Fail::from("nothing to check"));
         };
-        assert_eq!(rt; checked_of(check), checked, "{words:?}");
+        assert_same_in(&rt, checked_of(check), checked, words);
     }
     Ok(())
 }
@@ -178,7 +180,7 @@ fn words_of_trace_are_taken(rt: HostRuntime) -> Result<(), Fail> {
         let Request::Trace(trace) = &request else {
             return Err(Fail::from("nothing to trace"));
         };
-        assert_eq!(rt; checked_of(trace), checked, "{words:?}");
+        assert_same_in(&rt, checked_of(trace), checked, words);
     }
     Ok(())
 }
@@ -199,7 +201,7 @@ fn words_of_relate_are_taken(rt: HostRuntime) -> Result<(), Fail> {
             return Err(Fail::from("nothing to relate"));
         };
         let taken = (relate.polygons.as_str(), text_or_none(&relate.pattern));
-        assert_eq!(rt; taken, (polygons, pattern), "{words:?}");
+        assert_same_in(&rt, taken, (polygons, pattern), words);
     }
     Ok(())
 }
@@ -219,7 +221,7 @@ fn words_of_serve_are_taken(rt: HostRuntime) -> Result<(), Fail> {
             return Err(Fail::from("no script"));
         };
         let taken = (serve.calculus.as_str(), serve.nodes, serve.workers);
-        assert_eq!(rt; taken, (calculus, nodes, workers), "{words:?}");
+        assert_same_in(&rt, taken, (calculus, nodes, workers), words);
     }
     Ok(())
 }
@@ -238,7 +240,7 @@ fn words_of_demo_are_taken(rt: HostRuntime) -> Result<(), Fail> {
         let Request::Demo(demo) = &request else {
             return Err(Fail::from("no demonstration"));
         };
-        assert_eq!(rt; (demo.seed, demo.nodes), (seed, nodes), "{words:?}");
+        assert_same_in(&rt, (demo.seed, demo.nodes), (seed, nodes), words);
     }
     Ok(())
 }

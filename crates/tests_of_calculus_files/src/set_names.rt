@@ -1,4 +1,5 @@
 //! Sets over the calculus of points on a line.
+use crate::asserts::{assert_same, assert_same_in};
 use calculus_builtin::point;
 use calculus_table::Rel;
 use named_sets::{BaseNames, SetWriter, read_set};
@@ -20,7 +21,7 @@ fn sets_are_read(rt: HostRuntime) -> Result<(), Fail> {
     let bases = BaseNames::new(c.names());
     for (word, text, _line) in SETS {
         let set = read_set(&mut TokenReader::new(text), &bases);
-        assert_eq!(rt; set, Some(Some(Rel::of(word))), "{text:?}");
+        assert_same_in(&rt, set, Some(Some(Rel::of(word))), text);
     }
     Ok(())
 }
@@ -57,8 +58,8 @@ fn other_tokens_are_no_set(rt: HostRuntime) -> Result<(), Fail> {
     for (text, has_form) in OTHERS {
         let expected = if has_form { Some(None) } else { None };
         let set = read_set(&mut TokenReader::new(text), &bases);
-        assert_eq!(rt; set, expected, "{text:?}");
+        assert_same_in(&rt, set, expected, text);
     }
-    assert_eq!(rt; (bases.find(b"="), bases.find(b"")), (Some(1), None));
+    assert_same(&rt, (bases.find(b"="), bases.find(b"")), (Some(1), None));
     Ok(())
 }

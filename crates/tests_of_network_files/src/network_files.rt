@@ -1,5 +1,6 @@
 //! Network files over the calculus of points on a line: which are read, which are refused at which line, and the text
 //! of a network.
+use crate::asserts::{assert_same, assert_same_in};
 use calculus_builtin::point;
 use calculus_table::Calculus;
 use network_file::FileFault::{NameTwice, NoEnd, NoNode, Nodes, SelfEdge, Syntax, Unknown};
@@ -29,8 +30,8 @@ type Read<'a> = (&'a [u8], u32, &'a [u64]);
 
 /// Fails unless the network that was read of the file has so many nodes, and these sets.
 fn assert_net(rt: &impl Abort, file: &[u8], net: &Net, nodes: u32, words: &[u64]) {
-    assert_eq!(rt; net.nodes(), nodes, "{file:?}");
-    assert_eq!(rt; net.words(), words, "{file:?}");
+    assert_same_in(rt, net.nodes(), nodes, file);
+    assert_same_in(rt, net.words(), words, file);
 }
 
 /// Fails unless each file is read as its network.
@@ -82,7 +83,7 @@ type Refused<'a> = (&'a [u8], FileFault);
 /// Fails unless each file is refused with its fault.
 fn are_refused(rt: &impl Abort, alloc: Global, rows: &[Refused]) {
     for (file, fault) in rows {
-        assert_eq!(rt; read_points(alloc, file).err(), Some(*fault), "{file:?}");
+        assert_same_in(rt, read_points(alloc, file).err(), Some(*fault), file);
     }
 }
 
@@ -189,7 +190,7 @@ const PRINTED: [&str; 3] = [
 #[test]
 fn a_printed_network_is_read_again(rt: HostRuntime) -> Result<(), Fail> {
     for file in PRINTED {
-        assert_eq!(rt; printed(rt.alloc(), file.as_bytes())?.as_str(), file);
+        assert_same(&rt, printed(rt.alloc(), file.as_bytes())?.as_str(), file);
     }
     Ok(())
 }
@@ -197,7 +198,7 @@ fn a_printed_network_is_read_again(rt: HostRuntime) -> Result<(), Fail> {
 #[test]
 fn the_greatest_network_has_32642_lines(rt: HostRuntime) -> Result<(), Fail> {
     let printed = printed(rt.alloc(), b"nodes 256\n.\n")?;
-    assert_eq!(rt; printed.as_str().lines().count(), 32_642);
+    assert_same(&rt, printed.as_str().lines().count(), 32_642);
     assert!(rt; printed.ends_with("\n254 255 ( < = > )\n.\n"));
     Ok(())
 }
@@ -206,7 +207,7 @@ fn the_greatest_network_has_32642_lines(rt: HostRuntime) -> Result<(), Fail> {
 fn greatest_text(rt: &impl Abort, alloc: Global) -> Result<Vec<u8>, Fail> {
     let mut bytes = vec![in alloc; b'\n'; 16_777_207]?;
     bytes.extend_from_slice(b"nodes 1\n.")?;
-    assert_eq!(rt; bytes.len(), 16_777_216);
+    assert_same(rt, bytes.len(), 16_777_216);
     Ok(bytes)
 }
 
@@ -214,6 +215,6 @@ fn greatest_text(rt: &impl Abort, alloc: Global) -> Result<Vec<u8>, Fail> {
 fn a_text_of_the_greatest_length_is_read(rt: HostRuntime) -> Result<(), Fail> {
     let bytes = greatest_text(&rt, rt.alloc())?;
     let net = read_points(rt.alloc(), &bytes)?;
-    assert_eq!(rt; net.nodes(), 1);
+    assert_same(&rt, net.nodes(), 1);
     Ok(())
 }
