@@ -2,6 +2,6 @@ pub mod Closures
 pub mod Trails
 pub mod InStep
 pub mod Standing
-pub mod Rows
+pub mod EdgeRows
 pub mod Counted
 pub mod Copies

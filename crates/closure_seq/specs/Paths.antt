@@ -9,7 +9,7 @@ use Rattle.network_words.specs.Closure.{IsClosed, IsClosure}
 use Rattle.network_words.specs.declared.TheConstants.{MAX_NODES}
 use Rattle.compose_fast.specs.Planes.{AreBaseTables}
 use Rattle.edge_propagation.specs.Worklist.{Worklist, IsQueued, IsIdle, set_of}
-use Rattle.edge_propagation.specs.Propagation.{IsInStep}
+use Rattle.edge_propagation.specs.Propagation.{IsInStep, IsPlanes}
 use Rattle.closure_seq.specs.Levels.{LevelSets}
 
 -- what contracts see of a path: the calculus, the nodes, the words of the top, and those of the levels below it, the first

@@ -1,7 +1,7 @@
 use Rattle.std.proofs.Common.{◌≡◌, ◌-◌, ◌≤◌, ◌∙◌, ap, arith}
 use Rattle.network_words.specs.Edge.{edge_at}
 use Rattle.network_words.proofs.Edges.{edge_of, edge_between-forward}
-use Rattle.closure_seq.proofs.Rows.{row-order, row-later, row-first, row-second}
+use Rattle.closure_seq.proofs.EdgeRows.{row-order, row-later, row-first, row-second}
 use Rattle.closure_seq.proofs.rows.nodes_of_edge.Goals as goal
 
 pub loop-i-init : goal.loop-i-init
