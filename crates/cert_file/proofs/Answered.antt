@@ -23,9 +23,9 @@ use Rattle.cert_file.specs.declared.fault.Wrong.{Wrong}
 use Rattle.cert_file.specs.declared.fault.Wrong.TheVariants.{At, Memory}
 use Rattle.cert_file.specs.declared.fault.CertFault.{CertFault}
 use Rattle.cert_file.specs.declared.fault.CertFault.TheVariants as fault
-use Rattle.refutation.specs.Tree.{sweep, leaf_node}
-use Rattle.refutation.specs.declared.tree.Kind.{Kind}
-use Rattle.refutation.specs.declared.tree.Kind.TheVariants.{Empty, Found, Open, Later, Split}
+use Rattle.split_trees.specs.Tree.{sweep, leaf_node}
+use Rattle.split_trees.specs.declared.tree.Kind.{Kind}
+use Rattle.split_trees.specs.declared.tree.Kind.TheVariants.{Empty, Found, Open, Later, Split}
 
 -- ---- what is wrong is wrong at an entry
 

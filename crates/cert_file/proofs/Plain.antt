@@ -3,9 +3,9 @@ use Rattle.std.proofs.Common.{◌≡◌, ℕ, List, [], ◌∷◌, Option, Some,
 use Rattle.serde_json.specs.Data.{Data, string}
 use Rattle.serde_json.specs.View.{items_of}
 use Rattle.serde_json.specs.Written.{has_float, items_have_float, members_have_float}
-use Rattle.refutation.specs.Tree.{NodeSteps, sweep, listed, TreeNode}
-use Rattle.refutation.specs.declared.tree.Kind.{Kind}
-use Rattle.refutation.specs.declared.tree.Kind.TheVariants.{Empty, Found, Open, Later, Split}
+use Rattle.split_trees.specs.Tree.{NodeSteps, sweep, listed, TreeNode}
+use Rattle.split_trees.specs.declared.tree.Kind.{Kind}
+use Rattle.split_trees.specs.declared.tree.Kind.TheVariants.{Empty, Found, Open, Later, Split}
 use Rattle.cert_file.specs.Certificate.{Certificate}
 use Rattle.cert_file.specs.Written.{number_json, list_json, step_json, steps_json, steps_entries, node_entries, node_json, version_for, certificate_json, certificate_members}
 use Rattle.cert_file.specs.declared.claim.Version.{Version}

@@ -10,10 +10,10 @@ use Rattle.qsr_lex.proofs.PrintedNames.{IsAscii-name}
 use Rattle.serde_json.specs.Data.{Data, string, object, depth, items_depth, members_depth}
 use Rattle.serde_json.specs.Read.{max_depth}
 use Rattle.serde_json.specs.View.{items_of}
-use Rattle.refutation.specs.Tree.{NodeSteps, sweep, listed, TreeNode}
-use Rattle.refutation.specs.declared.tree.Kind.{Kind}
-use Rattle.refutation.specs.declared.tree.Kind.TheVariants.{Empty, Found, Open, Later, Split}
-use Rattle.refutation.specs.declared.tree.Step.{Step}
+use Rattle.split_trees.specs.Tree.{NodeSteps, sweep, listed, TreeNode}
+use Rattle.split_trees.specs.declared.tree.Kind.{Kind}
+use Rattle.split_trees.specs.declared.tree.Kind.TheVariants.{Empty, Found, Open, Later, Split}
+use Rattle.split_trees.specs.declared.tree.Step.{Step}
 use Rattle.cert_file.specs.Certificate.{Certificate}
 use Rattle.cert_file.specs.Nodes.{kind_name}
 use Rattle.cert_file.specs.Fields.{claim_name, certificate_with}

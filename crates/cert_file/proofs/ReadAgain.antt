@@ -10,10 +10,10 @@ use Rattle.network_words.specs.declared.TheConstants.{MAX_NODES}
 use Rattle.qsr_lex.specs.Names.{is_name}
 use Rattle.serde_json.specs.Data.{Data, string, object}
 use Rattle.serde_json.specs.Find.{get}
-use Rattle.refutation.specs.Tree.{NodeSteps, sweep, listed, TreeNode, leaf_node, IsBareLeaf, HasBareLeaves}
-use Rattle.refutation.specs.declared.tree.Kind.{Kind}
-use Rattle.refutation.specs.declared.tree.Kind.TheVariants.{Empty, Found, Open, Later, Split}
-use Rattle.refutation.specs.declared.tree.Step.{Step}
+use Rattle.split_trees.specs.Tree.{NodeSteps, sweep, listed, TreeNode, leaf_node, IsBareLeaf, HasBareLeaves}
+use Rattle.split_trees.specs.declared.tree.Kind.{Kind}
+use Rattle.split_trees.specs.declared.tree.Kind.TheVariants.{Empty, Found, Open, Later, Split}
+use Rattle.split_trees.specs.declared.tree.Step.{Step}
 use Rattle.cert_file.specs.Certificate.{Certificate}
 use Rattle.cert_file.specs.Parts.{number_below, name_of, values, list_of, step_of}
 use Rattle.cert_file.specs.Nodes.{steps_of, node_of}

@@ -13,9 +13,9 @@ use Rattle.serde_json.specs.Data.{Data}
 use Rattle.serde_json.specs.Find.{as_str, as_number, as_u64}
 use Rattle.line_files.specs.Steps.{◌>>=◌}
 use Rattle.line_files.proofs.Steps.{MatchResult-then}
-use Rattle.refutation.specs.Tree.{NodeSteps, TreeNode, IsBareLeaf}
-use Rattle.refutation.specs.declared.tree.Kind.{Kind}
-use Rattle.refutation.specs.declared.tree.Kind.TheVariants.{Empty, Found, Open, Later, Split}
+use Rattle.split_trees.specs.Tree.{NodeSteps, TreeNode, IsBareLeaf}
+use Rattle.split_trees.specs.declared.tree.Kind.{Kind}
+use Rattle.split_trees.specs.declared.tree.Kind.TheVariants.{Empty, Found, Open, Later, Split}
 use Rattle.cert_file.specs.Certificate.{Certificate}
 use Rattle.cert_file.specs.Parts.{or_wrong, member_of, if_below, number_below, if_name, name_of, with_first, values, entries, entry, list_of, base_of, node_number, set_of, number_at, numbers_of_step, step_of}
 use Rattle.cert_file.specs.Nodes.{steps_listed, steps_or_list, steps_of, steps_at, kind_of, leaf_with, list_at, split_entries, node_of_kind, node_of}

@@ -1,6 +1,6 @@
 -- What a certificate says.
 use Rattle.std.specs.Prelude.{ℕ, List, Option}
-use Rattle.refutation.specs.Tree.{TreeNode}
+use Rattle.split_trees.specs.Tree.{TreeNode}
 use Rattle.cert_file.specs.declared.claim.Claim.{Claim}
 
 -- the number of nodes and the names of the base relations of the network, what is claimed of it, and what shows that: the base

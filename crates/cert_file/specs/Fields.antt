@@ -7,7 +7,7 @@ use Rattle.network_words.specs.declared.TheConstants.{MAX_NODES}
 use Rattle.serde_json.specs.Data.{Data}
 use Rattle.serde_json.specs.Find.{as_str, as_object}
 use Rattle.line_files.specs.Steps.{◌>>=◌}
-use Rattle.refutation.specs.Tree.{TreeNode}
+use Rattle.split_trees.specs.Tree.{TreeNode}
 use Rattle.cert_file.specs.Certificate.{Certificate}
 use Rattle.cert_file.specs.Parts.{or_wrong, number_below, name_of, member_of, list_of, base_of}
 use Rattle.cert_file.specs.Nodes.{node_of}

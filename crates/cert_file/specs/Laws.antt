@@ -3,7 +3,7 @@ use Rattle.std.specs.Prelude.{◌≡◌, ◌≢◌, ◌⊎◌, ℕ, ◌==◌, �
 use Rattle.std.specs.List.{list_all}
 use Rattle.cert_file.specs.Certificate.{Certificate}
 use Rattle.cert_file.specs.Files.{IsFileOf, IsFaultOf}
-use Rattle.refutation.specs.Tree.{TreeNode, HasBareLeaves}
+use Rattle.split_trees.specs.Tree.{TreeNode, HasBareLeaves}
 use Rattle.cert_file.specs.Written.{HasForms, IsWritable, certificate_text}
 use Rattle.cert_file.specs.declared.fault.CertFault.{CertFault}
 use Rattle.cert_file.specs.declared.fault.CertFault.TheVariants.{Memory}

@@ -5,10 +5,10 @@ use Rattle.std.specs.Str.{bytes_eq}
 use Rattle.serde_json.specs.Data.{Data}
 use Rattle.serde_json.specs.Find.{as_str}
 use Rattle.line_files.specs.Steps.{◌>>=◌}
-use Rattle.refutation.specs.Tree.{NodeSteps, sweep, listed, TreeNode, leaf_node}
-use Rattle.refutation.specs.declared.tree.Kind.{Kind}
-use Rattle.refutation.specs.declared.tree.Kind.TheVariants.{Empty, Found, Open, Later, Split}
-use Rattle.refutation.specs.declared.tree.Step.{Step}
+use Rattle.split_trees.specs.Tree.{NodeSteps, sweep, listed, TreeNode, leaf_node}
+use Rattle.split_trees.specs.declared.tree.Kind.{Kind}
+use Rattle.split_trees.specs.declared.tree.Kind.TheVariants.{Empty, Found, Open, Later, Split}
+use Rattle.split_trees.specs.declared.tree.Step.{Step}
 use Rattle.cert_file.specs.Parts.{or_wrong, entry, has_count, list_of, number_at, node_number, set_of, step_of}
 use Rattle.cert_file.specs.declared.claim.Version.{Version}
 use Rattle.cert_file.specs.declared.claim.Version.TheVariants.{One, Two}

@@ -7,7 +7,7 @@ use Rattle.serde_json.specs.Find.{as_number, as_u64, as_str, as_array, get, at}
 use Rattle.serde_json.specs.Events.{items_len}
 use Rattle.qsr_lex.specs.Names.{is_name}
 use Rattle.line_files.specs.Steps.{◌>>=◌}
-use Rattle.refutation.specs.declared.tree.Step.{Step}
+use Rattle.split_trees.specs.declared.tree.Step.{Step}
 use Rattle.cert_file.specs.declared.fault.Wrong.{Wrong}
 use Rattle.cert_file.specs.declared.fault.Wrong.TheVariants.{At, Memory}
 

@@ -7,10 +7,10 @@ use Rattle.serde_json.specs.Data.{Data, number, unsigned, string, array, object,
 use Rattle.serde_json.specs.View.{items_of}
 use Rattle.serde_json.specs.Written.{compact_text}
 use Rattle.qsr_lex.specs.Names.{is_name}
-use Rattle.refutation.specs.Tree.{NodeSteps, sweep, listed, TreeNode, HasBareLeaves}
-use Rattle.refutation.specs.declared.tree.Kind.{Kind}
-use Rattle.refutation.specs.declared.tree.Kind.TheVariants.{Empty, Found, Open, Later, Split}
-use Rattle.refutation.specs.declared.tree.Step.{Step}
+use Rattle.split_trees.specs.Tree.{NodeSteps, sweep, listed, TreeNode, HasBareLeaves}
+use Rattle.split_trees.specs.declared.tree.Kind.{Kind}
+use Rattle.split_trees.specs.declared.tree.Kind.TheVariants.{Empty, Found, Open, Later, Split}
+use Rattle.split_trees.specs.declared.tree.Step.{Step}
 use Rattle.cert_file.specs.Certificate.{Certificate}
 use Rattle.cert_file.specs.Nodes.{kind_name}
 use Rattle.cert_file.specs.Fields.{claim_name}

@@ -1,6 +1,6 @@
 //! What a certificate says.
-use refutation::Tree;
 use scenario::Scenario;
+use split_trees::Tree;
 use std::marker::Model;
 
 /// What is claimed of a network.

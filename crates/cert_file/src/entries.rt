@@ -11,8 +11,8 @@ ghost use Rattle.cert_file.specs.declared.fault.Wrong.{Wrong};
 use crate::fault::{WRONG, Wrong};
 use calculus_table::Rel;
 use qsr_lex::is_name;
-use refutation::Step;
 use serde_json::Value;
+use split_trees::Step;
 use std::alloc::Global;
 
 /// What is read from a JSON value.

@@ -3,7 +3,7 @@ ghost use Rattle.std.specs.Prelude.{◌≡◌, ◌<◌, ◌^◌, map, length, op
 ghost use Rattle.std.specs.String.{string_bytes};
 ghost use Rattle.serde_json.specs.View.{view};
 ghost use Rattle.line_files.specs.Steps.{FailsExcept};
-ghost use Rattle.refutation.specs.Tree.{AreFewSteps};
+ghost use Rattle.split_trees.specs.Tree.{AreFewSteps};
 ghost use Rattle.cert_file.specs.Fields.{version_of, nodes_of, relations_of, claim_named, claim_of};
 ghost use Rattle.cert_file.specs.Fields.{scenario_of, tree_of};
 ghost use Rattle.cert_file.specs.declared.fault.Wrong.{Wrong};
@@ -14,9 +14,9 @@ use crate::fault::{WRONG, Wrong};
 use crate::nodes::nodes;
 use calculus_table::MAX_BASES;
 use network_words::MAX_NODES;
-use refutation::Tree;
 use scenario::Scenario;
 use serde_json::Value;
+use split_trees::Tree;
 use std::alloc::Global;
 
 /// The version: 1 or 2.

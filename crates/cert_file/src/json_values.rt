@@ -6,8 +6,8 @@ ghost use Rattle.serde_json.specs.View.{view};
 ghost use Rattle.cert_file.specs.Written.{number_json, list_json, step_json, IsStepOfNumbers};
 
 use calculus_table::Rel;
-use refutation::Step;
 use serde_json::Value;
+use split_trees::Step;
 use std::alloc::{AllocError, Global};
 
 /// What has a JSON value.

@@ -2,8 +2,8 @@
 ghost use Rattle.std.specs.Prelude.{◌≡◌, ◌<◌, ◌^◌, length, map, IfOk, IfErr, MatchResult, Ok, Err, All};
 ghost use Rattle.serde_json.specs.View.{view};
 ghost use Rattle.line_files.specs.Steps.{FailsExcept};
-ghost use Rattle.refutation.specs.Tree.{AreFewSteps};
-ghost use Rattle.refutation.specs.Steps.{node_steps};
+ghost use Rattle.split_trees.specs.Tree.{AreFewSteps};
+ghost use Rattle.split_trees.specs.Steps.{node_steps};
 ghost use Rattle.cert_file.specs.Parts.{list_of};
 ghost use Rattle.cert_file.specs.Nodes.{kind_named, kind_of, steps_count, steps_of, steps_at, plain_leaf, worked_leaf};
 ghost use Rattle.cert_file.specs.Nodes.{list_at, split_entries, split_of, node_of_kind, node_of};
@@ -12,8 +12,8 @@ ghost use Rattle.cert_file.specs.declared.fault.Wrong.{Wrong};
 use crate::claim::Version;
 use crate::entries::{FromJson, entries, entry, has_count, list, number_at};
 use crate::fault::{WRONG, Wrong};
-use refutation::{Kind, Node, Step, Steps};
 use serde_json::Value;
+use split_trees::{Kind, Node, Step, Steps};
 use std::alloc::Global;
 
 /// The nodes of an array of nodes.

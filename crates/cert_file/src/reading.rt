@@ -7,7 +7,7 @@
 ghost use Rattle.std.specs.Prelude.{◌≡◌, ◌<◌, ◌^◌, length, IfOk, IfErr, Ok, MatchResult, All};
 ghost use Rattle.serde_json.specs.View.{view};
 ghost use Rattle.line_files.specs.Steps.{FailsExcept};
-ghost use Rattle.refutation.specs.Tree.{AreFewSteps};
+ghost use Rattle.split_trees.specs.Tree.{AreFewSteps};
 ghost use Rattle.cert_file.specs.Fields.{keys_of, certificate_of};
 ghost use Rattle.cert_file.specs.Files.{IsFileOf, IsFaultOf};
 ghost use Rattle.cert_file.specs.declared.fault.CertFault.{CertFault};

@@ -7,7 +7,7 @@ ghost use Rattle.std.specs.List.{list_all};
 ghost use Rattle.std.specs.String.{string_bytes};
 ghost use Rattle.serde_json.specs.Data.{string, put as with_member};
 ghost use Rattle.serde_json.specs.View.{view, members_view};
-ghost use Rattle.refutation.specs.Steps.{node_steps};
+ghost use Rattle.split_trees.specs.Steps.{node_steps};
 ghost use Rattle.cert_file.specs.Nodes.{kind_name};
 ghost use Rattle.cert_file.specs.Fields.{claim_name};
 ghost use Rattle.cert_file.specs.Written.{number_json, list_json, steps_json, steps_entries, node_entries, node_json};
@@ -20,9 +20,9 @@ ghost use Rattle.cert_file.specs.Files.{IsFileOf};
 use crate::claim::{Cert, Claim, Version};
 use crate::json_values::{ToJson, list_value};
 use calculus_table::Memory;
-use refutation::{Kind, Node, Steps};
 use scenario::Scenario;
 use serde_json::{Map, Value, put};
+use split_trees::{Kind, Node, Steps};
 use std::alloc::{AllocError, Global};
 
 /// The text of a certificate: a line of JSON, with its line end. It is a file of the certificate where that has the

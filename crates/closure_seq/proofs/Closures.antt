@@ -16,8 +16,8 @@ use Rattle.network_words.proofs.Networks.{relation_between-forward, relation_bet
 use Rattle.network_words.proofs.Pairs.{pair-ordered, pair-first, pair-second, pair-outer}
 use Rattle.network_words.proofs.Refinements.{IsNetwork-refines}
 use Rattle.network_words.proofs.Scenarios.{converse-empty, relation_between-empty, closed-empty}
-use Rattle.closure_seq.specs.Worklist.{Worklist}
-use Rattle.closure_seq.specs.Propagation.{IsInStep, IsInside, IsRefinement, HasEmpty, AreClosed}
+use Rattle.edge_propagation.specs.Worklist.{Worklist}
+use Rattle.edge_propagation.specs.Propagation.{IsInStep, IsInside, IsRefinement, HasEmpty, AreClosed}
 
 -- a fact of each word from one of each pair
 by_edge : (P : ℕ → ℕ → Type 0) (n : ℕ) (xs ys : List ℕ) → length xs ≡ edge_count n → ((y : ℕ) → P 0 y) →

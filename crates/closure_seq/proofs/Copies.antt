@@ -8,15 +8,16 @@ use Rattle.network_words.specs.Closure.{IsClosed, IsRangeClosed}
 use Rattle.network_words.proofs.Edges.{edge_at-order}
 use Rattle.network_words.proofs.Pairs.{pair-first, pair-second, pair-outer}
 use Rattle.compose_fast.specs.Planes.{AreBaseTables}
-use Rattle.closure_seq.specs.declared.span.Span.{Span}
-use Rattle.closure_seq.specs.Worklist.{Worklist, IsIdle, IsBegun}
-use Rattle.closure_seq.specs.Propagation.{AreConverses, IsInStep, IsRefinement, IsReady, IsStep, IsSettled, IsRowSettled, IsStored}
-use Rattle.closure_seq.specs.Paths.{IsPlanes}
-use Rattle.closure_seq.specs.Copies.{CopyState, IsCopyOf, IsOpenCopy, IsSettledCopy, IsSweptCopy, IsMet, AreRowsOf}
-use Rattle.closure_seq.proofs.Settled.{IsSettled-met, IsSettled-none, IsSettled-row, AreRowsClosed-idle}
-use Rattle.closure_seq.proofs.Steps.{IsMet-step}
-use Rattle.closure_seq.proofs.Starts.{IsSettled-begun}
-use Rattle.closure_seq.proofs.Loads.{IsInStep-queue, IsInStep-stored, AreConverses-in_step}
+use Rattle.edge_propagation.specs.declared.span.Span.{Span}
+use Rattle.edge_propagation.specs.Worklist.{Worklist, IsIdle, IsBegun}
+use Rattle.edge_propagation.specs.Propagation.{AreConverses, IsInStep, IsRefinement, IsReady, IsStep, IsSettled, IsRowSettled, IsStored}
+use Rattle.edge_propagation.specs.Propagation.{IsPlanes}
+use Rattle.closure_seq.specs.Copies.{CopyState, IsCopyOf, IsOpenCopy, IsSettledCopy, IsSweptCopy, AreRowsOf}
+use Rattle.edge_propagation.specs.Propagation.{IsMet}
+use Rattle.edge_propagation.proofs.Settled.{IsSettled-met, IsSettled-none, IsSettled-row, AreRowsClosed-idle}
+use Rattle.edge_propagation.proofs.Steps.{IsMet-step}
+use Rattle.edge_propagation.proofs.Starts.{IsSettled-begun}
+use Rattle.edge_propagation.proofs.Loads.{IsInStep-queue, IsInStep-stored, AreConverses-in_step}
 use Rattle.closure_seq.proofs.InStep.{AreClosed-in_step}
 use Rattle.closure_seq.proofs.Standing.{planes-le}
 

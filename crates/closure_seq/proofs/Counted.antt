@@ -14,10 +14,10 @@ use Rattle.network_words.specs.Closure.{IsClosure}
 use Rattle.network_words.proofs.Networks.{set-cases}
 use Rattle.network_words.proofs.Refinements.{IsNetwork-refines}
 use Rattle.network_words.proofs.Scenarios.{closed-empty}
-use Rattle.closure_seq.specs.Worklist.{Worklist, IsSized}
+use Rattle.edge_propagation.specs.Worklist.{Worklist, IsSized}
 use Rattle.closure_seq.specs.Levels.{LevelSets}
 use Rattle.closure_seq.specs.Paths.{Path, IsClosedNetwork, IsPath, IsStanding, IsEmptyClosure, counted_top, counted_below}
-use Rattle.closure_seq.proofs.Planes.{zero-at}
+use Rattle.edge_propagation.proofs.Planes.{zero-at}
 use Rattle.closure_seq.proofs.Trails.{All-cons}
 use Rattle.closure_seq.proofs.Closures.{IsClosed-empty, IsClosure-empty}
 

@@ -14,13 +14,13 @@ use Rattle.network_words.proofs.Edges.{edge_at-lt, edge_between-forward}
 use Rattle.network_words.proofs.Networks.{relation_between-forward, relation_between-backward}
 use Rattle.network_words.proofs.Pairs.{pair-ordered, pair-first, pair-second, pair-outer, pair-from_edge}
 use Rattle.network_words.proofs.Refinements.{relation_between-same}
-use Rattle.closure_seq.specs.Worklist.{Worklist, IsSized, edge_place, set_of, with_pair}
-use Rattle.closure_seq.specs.declared.span.Span.{Span}
-use Rattle.closure_seq.specs.Propagation.{AreConverses, IsInStep, IsStep, AreClosed, IsSettled}
+use Rattle.edge_propagation.specs.Worklist.{Worklist, IsSized, edge_place, set_of, with_pair}
+use Rattle.edge_propagation.specs.declared.span.Span.{Span}
+use Rattle.edge_propagation.specs.Propagation.{AreConverses, IsInStep, IsStep, AreClosed, IsSettled}
 use Rattle.closure_seq.specs.Paths.{IsInStepBut, IsQuiet}
-use Rattle.closure_seq.proofs.Places.{same-cases, same-place, mark-kept, pair-from_place, edge_place-inside}
-use Rattle.closure_seq.proofs.Steps.{with_pair-first, with_pair-second, with_pair-other, refined}
-use Rattle.closure_seq.proofs.Settled.{popped, quiet-idle}
+use Rattle.edge_propagation.proofs.Places.{same-cases, same-place, mark-kept, pair-from_place, edge_place-inside}
+use Rattle.edge_propagation.proofs.Steps.{with_pair-first, with_pair-second, with_pair-other, refined}
+use Rattle.edge_propagation.proofs.Settled.{popped, quiet-idle}
 
 -- ---- the word of one edge replaced
 

@@ -1,16 +1,7 @@
-pub mod Places
-pub mod Planes
-pub mod Starts
-pub mod Steps
-pub mod Settled
-pub mod Sweeps
-pub mod Blocks
-pub mod Loads
 pub mod Closures
-pub mod FullSets
 pub mod Trails
 pub mod InStep
 pub mod Standing
-pub mod Rows
+pub mod EdgeRows
 pub mod Counted
 pub mod Copies

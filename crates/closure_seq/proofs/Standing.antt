@@ -13,13 +13,14 @@ use Rattle.network_words.specs.Closure.{IsClosure}
 use Rattle.network_words.proofs.Networks.{relation_between-forward, set-cases}
 use Rattle.network_words.proofs.Pairs.{pair-ordered}
 use Rattle.network_words.proofs.Refinements.{IsNetwork-refines}
-use Rattle.closure_seq.specs.Worklist.{Worklist, IsSized, set_of}
-use Rattle.closure_seq.specs.declared.span.Span.{Span}
-use Rattle.closure_seq.specs.Propagation.{AreConverses, IsReady, IsInStep, IsRefinement, HasEmpty, AreClosed, IsSettled}
+use Rattle.edge_propagation.specs.Worklist.{Worklist, IsSized, set_of}
+use Rattle.edge_propagation.specs.declared.span.Span.{Span}
+use Rattle.edge_propagation.specs.Propagation.{AreConverses, IsReady, IsInStep, IsRefinement, HasEmpty, AreClosed, IsSettled}
 use Rattle.closure_seq.specs.Levels.{LevelSets}
-use Rattle.closure_seq.specs.Paths.{IsInStepBut, IsQuiet, IsPlanes, IsClosedNetwork, IsStanding, IsEmptyClosure}
-use Rattle.closure_seq.proofs.Steps.{refined}
-use Rattle.closure_seq.proofs.Loads.{AreConverses-in_step}
+use Rattle.closure_seq.specs.Paths.{IsInStepBut, IsQuiet, IsClosedNetwork, IsStanding, IsEmptyClosure}
+use Rattle.edge_propagation.specs.Propagation.{IsPlanes}
+use Rattle.edge_propagation.proofs.Steps.{refined}
+use Rattle.edge_propagation.proofs.Loads.{AreConverses-in_step}
 use Rattle.closure_seq.proofs.Closures.{IsClosure-stored, IsClosure-emptied}
 use Rattle.closure_seq.proofs.Trails.{All-last, All-init, All-cons, snoc-same}
 use Rattle.closure_seq.proofs.InStep.{IsInStep-put, IsInStep-quiet, IsInStepBut-refined, AreClosed-in_step, IsSettled-refined}

@@ -6,10 +6,10 @@ use Rattle.calculus_table.specs.Calculus.{IsCalculus}
 use Rattle.network_words.specs.Edge.{edge_at, IsProperPair}
 use Rattle.network_words.specs.Network.{IsNetwork}
 use Rattle.compose_fast.specs.Planes.{AreBaseTables}
-use Rattle.closure_seq.specs.Worklist.{Worklist, set_of, IsQueued}
-use Rattle.closure_seq.specs.Propagation.{AreConverses, IsInStep, IsAmong, IsSettled}
-use Rattle.closure_seq.specs.Paths.{IsPlanes}
-use Rattle.closure_seq.specs.declared.span.Span.{Span}
+use Rattle.edge_propagation.specs.Worklist.{Worklist, set_of, IsQueued}
+use Rattle.edge_propagation.specs.Propagation.{AreConverses, IsInStep, IsAmong, IsSettled}
+use Rattle.edge_propagation.specs.Propagation.{IsPlanes}
+use Rattle.edge_propagation.specs.declared.span.Span.{Span}
 
 -- a slice of the edges of n nodes: those with a number from `from` up to but without `to`
 pub record Slice : Type 0 where
@@ -60,12 +60,3 @@ pub record IsSettledCopy (m : Algebra) (copy : CopyState) : Type 0 where
 pub record IsSweptCopy (m : Algebra) (copy : CopyState) (k : ℕ) : Type 0 where
   pub is_open : IsOpenCopy m copy
   pub settled : IsSettled m (record { first = copy.rows.first; end = k }) copy.work
-
--- sets only became smaller, and each edge whose set changed is queued
-pub record IsMet (m : Algebra) (old new : Worklist) : Type 0 where
-  pub nodes : new.nodes ≡ old.nodes
-  pub planes : new.planes ≡ old.planes
-  pub sets : AreConverses m new
-  pub within : (i j : ℕ) → IsProperPair old.nodes i j → IsWithin (set_of new i j) (set_of old i j)
-  pub stays : (i j : ℕ) → IsQueued old i j → IsQueued new i j
-  pub same : (i j : ℕ) → IsProperPair old.nodes i j → ¬ IsQueued new i j → set_of new i j ≡ set_of old i j

@@ -8,8 +8,8 @@ use Rattle.network_words.specs.Network.{IsNetwork, relation_between}
 use Rattle.network_words.specs.Closure.{IsClosed, IsClosure}
 use Rattle.network_words.specs.declared.TheConstants.{MAX_NODES}
 use Rattle.compose_fast.specs.Planes.{AreBaseTables}
-use Rattle.closure_seq.specs.Worklist.{Worklist, IsQueued, IsIdle, set_of}
-use Rattle.closure_seq.specs.Propagation.{IsInStep}
+use Rattle.edge_propagation.specs.Worklist.{Worklist, IsQueued, IsIdle, set_of}
+use Rattle.edge_propagation.specs.Propagation.{IsInStep, IsPlanes}
 use Rattle.closure_seq.specs.Levels.{LevelSets}
 
 -- what contracts see of a path: the calculus, the nodes, the words of the top, and those of the levels below it, the first
@@ -67,10 +67,6 @@ pub record IsInStepBut (m : Algebra) (n : ℕ) (words : List ℕ) (work : Workli
 -- no edge is queued
 abbrev pub IsQuiet : Worklist → Type 0
 IsQuiet work = (i : ℕ) → i < work.nodes → IsIdle work i
-
--- the numbers of planes that sets are kept in
-abbrev pub IsPlanes : ℕ → Type 0
-IsPlanes planes = (planes ≡ 1) ⊎ (planes ≡ 2) ⊎ (planes ≡ 4) ⊎ (planes ≡ 8)
 
 -- closed networks, level above level, and a worklist with the sets of the top, of which no edge is queued
 pub record IsStanding (m : Algebra) (work : Worklist) (levels : LevelSets) (bases : List ℕ) : Type 0 where

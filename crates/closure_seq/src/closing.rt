@@ -6,15 +6,12 @@ ghost use Rattle.std.specs.Prelude.{◌≡◌, ℕ, ◌*◌, ◌<◌, ◌≤◌,
 ghost use Rattle.network_words.specs.Edge.{edge_count};
 ghost use Rattle.network_words.specs.Network.{Network, IsNetwork};
 ghost use Rattle.network_words.specs.Closure.{IsClosure};
-ghost use Rattle.closure_seq.specs.Worklist.{Room, Worklist};
+ghost use Rattle.edge_propagation.specs.Worklist.{Room, Worklist};
 
-use crate::loading::{load_queued, store};
-use crate::pairs::PairSets;
-use crate::propagation::{Emptied, propagate_all};
-use crate::span::all_nodes;
 use crate::work::Work;
 use calculus_table::{Compose, Memory, Rel, lawful};
 use compose_fast::Tables;
+use edge_propagation::{Emptied, PairSets, all_nodes, load_queued, propagate_all, store};
 use network_words::Net;
 use std::alloc::Global;
 

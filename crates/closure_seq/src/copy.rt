@@ -13,19 +13,17 @@ ghost use Rattle.std.specs.Prelude.{◌≡◌, ◌*◌, ◌<◌, ◌≤◌, leng
 ghost use Rattle.network_words.specs.Edge.{edge_count};
 ghost use Rattle.network_words.specs.declared.TheConstants.{MAX_NODES};
 ghost use Rattle.compose_fast.specs.Planes.{AreBaseTables};
-ghost use Rattle.closure_seq.specs.Propagation.{AreConverses, IsReady, IsRefinement, IsStep, IsSettled, IsRowSettled};
-ghost use Rattle.closure_seq.specs.Paths.{IsPlanes};
-ghost use Rattle.closure_seq.specs.Copies.{IsMet};
+ghost use Rattle.edge_propagation.specs.Propagation.{AreConverses, IsReady, IsRefinement, IsStep, IsSettled, IsRowSettled};
+ghost use Rattle.edge_propagation.specs.Propagation.{IsPlanes};
+ghost use Rattle.edge_propagation.specs.Propagation.{IsMet};
 
-use crate::loading::{is_stored, load_planes};
-use crate::meeting::meet;
-use crate::order::Proposals;
-use crate::pairs::{Note, PairSets};
-use crate::propagation::propagate_noted;
-use crate::span::{Span, rows_of};
-use crate::sweeping::{Sweep, sweep_row};
+use crate::rows::rows_of;
 use calculus_table::{Compose, Memory, lawful};
 use compose_fast::Tables;
+use edge_propagation::{
+    Note, PairSets, Proposals, Span, Sweep, is_stored, load_planes, meet, propagate_noted,
+    sweep_row,
+};
 use std::alloc::Global;
 use std::marker::Model;
 

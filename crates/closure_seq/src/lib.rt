@@ -18,21 +18,14 @@
 mod closing;
 mod copy;
 mod levels;
-mod loading;
-mod meeting;
 mod narrowing;
-mod order;
-mod pairs;
 mod path;
-mod propagation;
-mod span;
-mod sweeping;
+mod rows;
 mod work;
 
 pub use closing::{close, close_with};
 pub use copy::SliceCopy;
+pub use edge_propagation::{Note, Sweep};
 pub use levels::Change;
-pub use pairs::Note;
 pub use path::ClosedPath;
-pub use sweeping::Sweep;
 pub use work::Work;

@@ -15,18 +15,16 @@ ghost use Rattle.calculus_table.specs.Composition.{full_of};
 ghost use Rattle.network_words.specs.Edge.{edge_count, edge_at};
 ghost use Rattle.network_words.specs.Closure.{IsClosure};
 ghost use Rattle.compose_fast.specs.Planes.{AreBaseTables};
-ghost use Rattle.closure_seq.specs.Worklist.{Worklist, set_of, edge_place};
-ghost use Rattle.closure_seq.specs.Propagation.{IsReady, IsInStep, IsRefinement, HasEmpty, AreClosed, IsSettled};
-ghost use Rattle.closure_seq.specs.Propagation.{all_nodes};
+ghost use Rattle.edge_propagation.specs.Worklist.{Worklist, set_of, edge_place};
+ghost use Rattle.edge_propagation.specs.Propagation.{IsReady, IsInStep, IsRefinement, HasEmpty, AreClosed, IsSettled};
+ghost use Rattle.edge_propagation.specs.Propagation.{all_nodes};
 ghost use Rattle.closure_seq.specs.Levels.{LevelSets};
 ghost use Rattle.closure_seq.specs.Paths.{IsInStepBut, IsQuiet, IsStanding, IsEmptyClosure};
 
 use crate::levels::Levels;
-use crate::pairs::PairSets;
-use crate::propagation::{Emptied, propagate, put_pair, refine};
-use crate::span::all_nodes;
 use calculus_table::{Compose, Memory, Rel, lawful};
 use compose_fast::Tables;
+use edge_propagation::{Emptied, PairSets, all_nodes, propagate, put_pair, refine};
 
 /// Why a level isn't made.
 #[derive(Clone, Copy, Debug, PartialEq, Eq)]

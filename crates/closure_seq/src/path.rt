@@ -12,17 +12,16 @@
 //! many changes as the sets of the first level have members.
 
 ghost use Rattle.std.specs.Prelude.{◌≡◌, ℕ, ◌*◌, ◌<◌, ◌≤◌};
-ghost use Rattle.closure_seq.specs.Worklist.{Worklist};
+ghost use Rattle.edge_propagation.specs.Worklist.{Worklist};
 
 use crate::closing::close_with;
 use crate::levels::{Change, Levels};
-use crate::loading::load_planes;
 use crate::narrowing::{Halt, begin_level, end_level};
-use crate::pairs::PairSets;
-use crate::span::nodes_of_edge;
+use crate::rows::nodes_of_edge;
 use crate::work::Work;
 use calculus_table::{Compose, Memory, Rel, lawful};
 use compose_fast::{Fast, Tables};
+use edge_propagation::{PairSets, load_planes};
 use network_words::Net;
 use std::alloc::Global;
 use std::marker::Model;

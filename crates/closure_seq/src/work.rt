@@ -1,7 +1,6 @@
-use crate::order::Proposals;
-use crate::pairs::PairSets;
 use calculus_table::Memory;
 use compose_fast::Tables;
+use edge_propagation::{PairSets, Proposals};
 use std::alloc::Global;
 use std::marker::Model;
 
@@ -13,7 +12,7 @@ pub struct Work {
 }
 
 impl Model for Work {
-    ghost use Rattle.closure_seq.specs.Worklist.{Room};
+    ghost use Rattle.edge_propagation.specs.Worklist.{Room};
 
     ghost Value = { Room };
 

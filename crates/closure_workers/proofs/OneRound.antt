@@ -20,7 +20,7 @@ use Rattle.narrow_core.specs.Actor.{ActorState}
 use Rattle.edge_table.specs.Opening.{OpenState, opening_over}
 use Rattle.edge_table.specs.Passes.{AreClosedWords}
 use Rattle.closure_workers.specs.declared.pieces.Piece.{Piece}
-use Rattle.closure_workers.specs.Slices.{HasClash}
+use Rattle.edge_slices.specs.Slices.{HasClash}
 use Rattle.closure_workers.specs.Pieces.{HasRun, AreDealt, IsBetween, HasSeen}
 
 -- ---- dealing

@@ -1,4 +1,3 @@
-pub mod Slices
 pub mod Pieces
 pub use Rattle.calculus_table.specs.Rel
 pub use Rattle.calculus_table.specs.Algebra

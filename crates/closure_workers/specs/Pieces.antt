@@ -8,7 +8,7 @@ use Rattle.network_words.specs.Closure.{IsClosed}
 use Rattle.edge_table.specs.Opening.{OpenState, IsPassOf, algebra_of}
 use Rattle.closure_workers.specs.declared.pieces.Piece.{Piece}
 use Rattle.closure_seq.specs.Copies.{CopyState}
-use Rattle.closure_workers.specs.Slices.{HasClash, IsSliceClosed, IsHeld}
+use Rattle.edge_slices.specs.Slices.{HasClash, IsSliceClosed, IsHeld}
 
 -- a piece of a table: its pass has one part of the weight, has stated nothing and has seen no more than the opening
 pub record IsPieceOf (table : OpenState) (piece : Piece) : Type 0 where

@@ -5,11 +5,9 @@
 //! - [`close_slice`] and [`close_slice_with`] close some of the edges of a table that others narrow too.
 #![tactic(auto)]
 
-mod copies;
 mod pieces;
 mod rounds;
-mod slices;
 
+pub use edge_slices::{close_slice, close_slice_with};
 pub use pieces::{is_shared, slice_end};
 pub use rounds::{close_held, close_parallel};
-pub use slices::{close_slice, close_slice_with};

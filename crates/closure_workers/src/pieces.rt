@@ -9,12 +9,12 @@ ghost use Rattle.network_words.specs.declared.TheConstants.{MAX_NODES};
 ghost use Rattle.network_words.specs.Network.{Refines};
 ghost use Rattle.narrow_core.specs.Actor.{fresh};
 ghost use Rattle.edge_table.specs.Opening.{IsPassOf, algebra_of};
-ghost use Rattle.closure_workers.specs.Slices.{IsHeld};
+ghost use Rattle.edge_slices.specs.Slices.{IsHeld};
 ghost use Rattle.closure_workers.specs.Pieces.{IsPieceOf, HasRun, AreDealt, AreHeld, IsBetween, HasSeen};
 
-use crate::slices::close_slice_with;
-use calculus_table::{Compose, Memory, Rel};
+use calculus_table::{Compose, Memory};
 use closure_seq::SliceCopy;
+use edge_slices::close_slice_with;
 use edge_table::{OpenNet, Pass, Snapshot};
 use network_words::edge_between;
 use qsr_outside::Gate;
@@ -46,18 +46,6 @@ const SHARED: u64 = 500_000;
 pub fn is_shared(nodes: u32, size: u32) -> bool {
     let size = u64::from(size);
     u64::from(nodes).saturating_mul(size.saturating_mul(size)) >= SHARED
-}
-
-/// Whether most of these sets are less than `full`.
-pub(crate) fn is_dense(words: &[u64], full: Rel) -> bool {
-    let full = full.word();
-    let mut lesser: usize = 0;
-    for word in words {
-        if *word != full {
-            lesser = lesser.wrapping_add(1);
-        }
-    }
-    lesser > words.len() / 2
 }
 
 /// What sweeping the rows before `i` takes, in thirty-seconds of a block of 16 nodes: a row has a block for each 16

@@ -19,10 +19,10 @@ ghost use Rattle.edge_table.specs.Opening.{algebra_of, IsPassOf};
 ghost use Rattle.closure_workers.specs.Pieces.{IsPieceOf, HasRun, IsBetween, AreHeld, AreClosedIfSeen};
 
 use crate::pieces::{Piece, deal, gather, is_shared, run_piece};
-use crate::slices::is_clash;
 use calculus_table::{Compose, Memory, Rel, lawful};
 use closure_seq::{SliceCopy, close};
 use compose_fast::first_difference;
+use edge_slices::is_clash;
 use edge_table::{OpenNet, Snapshot, open};
 use network_words::Net;
 use qsr_outside::Gate;

@@ -7,7 +7,7 @@ use Rattle.network_words.specs.Scenario.{IsScenario}
 use Rattle.scenario.proofs.Faults as scenario_faults
 use Rattle.refutation.specs.declared.fault.TreeFault.{TreeFault}
 use Rattle.refutation.specs.declared.fault.TreeFault.TheVariants as tree
-use Rattle.refutation.specs.Refutes.{IsRefutation}
+use Rattle.split_trees.specs.Refutes.{IsRefutation}
 use Rattle.refutation.proofs.Exact as tree_faults
 use Rattle.cert_file.specs.Certificate.{Certificate}
 use Rattle.cert_file.specs.Written.{certificate_text}

@@ -3,7 +3,7 @@ use Rattle.std.proofs.Common.{ℕ, List}
 use Rattle.calculus_table.specs.Calculus.{NamedAlgebra, IsCalculus}
 use Rattle.network_words.specs.Network.{Network, IsNetwork}
 use Rattle.network_words.specs.Scenario.{IsScenario}
-use Rattle.refutation.specs.Refutes.{IsRefutation}
+use Rattle.split_trees.specs.Refutes.{IsRefutation}
 use Rattle.refutation.proofs.NoScenarios.{refuted-none}
 use Rattle.cert_file.specs.Certificate.{Certificate}
 use Rattle.cert_file.specs.declared.claim.Claim.{Claim}

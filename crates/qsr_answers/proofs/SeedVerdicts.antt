@@ -10,7 +10,7 @@ use Rattle.network_words.proofs.Networks.{Refines-refl, IsClosure-unique, IsClos
 use Rattle.tract_classes.specs.Class.{HasBase}
 use Rattle.tract_classes.specs.BuiltIn.{h8}
 use Rattle.tract_classes.proofs.BuiltInClasses.{have_bases}
-use Rattle.refutation.specs.Tree.{TreeNode, NestedTree}
+use Rattle.split_trees.specs.Tree.{TreeNode, NestedTree}
 use Rattle.split_search.specs.Ruled.{HasTree, IsVerdict}
 use Rattle.split_search.specs.Verdicts.{nodes_of}
 use Rattle.split_search.specs.declared.verdict.Verdict.{Verdict}

@@ -11,9 +11,9 @@ use Rattle.network_words.specs.Network.{Network}
 use Rattle.network_words.specs.Scenario.{IsScenario}
 use Rattle.scenario.specs.Laws as scenario_laws
 use Rattle.scenario.proofs.FirstFaults.{scenario_or_fault}
-use Rattle.refutation.specs.Refutes.{IsRefutation}
+use Rattle.split_trees.specs.Refutes.{IsRefutation}
 use Rattle.refutation.specs.Traced.{IsTracedOf}
-use Rattle.refutation.specs.Tree.{TreeNode, preorder}
+use Rattle.split_trees.specs.Tree.{TreeNode, preorder}
 use Rattle.refutation.specs.Laws as refutation_laws
 use Rattle.refutation.specs.declared.fault.TreeFault.{TreeFault}
 use Rattle.refutation.specs.declared.fault.TreeFault.TheVariants as tree

@@ -2,11 +2,11 @@
 use Rattle.std.proofs.Common.{◌≡◌, ℕ, List, sym, ◌∙◌, ap, subst, refl}
 use Rattle.calculus_table.specs.Algebra.{Algebra}
 use Rattle.network_words.specs.Edge.{edge_at}
-use Rattle.refutation.specs.Tree.{TreeNode, listed, NestedTree, leaf, split, Branches, no_branches, branch, preorder}
-use Rattle.refutation.specs.Refutes.{after_steps, met_at}
+use Rattle.split_trees.specs.Tree.{TreeNode, listed, NestedTree, leaf, split, Branches, no_branches, branch, preorder}
+use Rattle.split_trees.specs.Refutes.{after_steps, met_at}
 use Rattle.refutation.specs.Traced.{HasShape, HaveShape, IsRuled, EachRuled, IsTracedOf}
 use Rattle.refutation.proofs.Exact.{tree-one}
-use Rattle.refutation.proofs.RuledSteps.{ruled-unique, cut-unique}
+use Rattle.stepped_networks.proofs.RuledSteps.{ruled-unique, cut-unique}
 
 module _ (m : Algebra) (n : ℕ) where
   mutual

@@ -8,7 +8,7 @@ use Rattle.network_words.proofs.Networks.{Refines-refl, IsClosure-unique, IsClos
 use Rattle.network_words.specs.Scenario.{as_network}
 use Rattle.network_file.specs.NetworkText.{network_text}
 use Rattle.cert_file.specs.Written.{certificate_text}
-use Rattle.refutation.specs.Tree.{TreeNode, NestedTree}
+use Rattle.split_trees.specs.Tree.{TreeNode, NestedTree}
 use Rattle.refutation.proofs.NoScenarios.{refuted-none}
 use Rattle.split_search.specs.Ruled.{HasTree, IsVerdict}
 use Rattle.split_search.specs.Verdicts.{IsTrueOf}

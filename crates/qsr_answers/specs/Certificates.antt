@@ -5,9 +5,9 @@ use Rattle.network_words.specs.Network.{Network}
 use Rattle.network_words.specs.Scenario.{IsScenario}
 use Rattle.scenario.specs.ScenarioFault as scenario_faults
 use Rattle.scenario.specs.declared.checking.At.{At}
-use Rattle.refutation.specs.Refutes.{IsRefutation}
+use Rattle.split_trees.specs.Refutes.{IsRefutation}
 use Rattle.refutation.specs.Traced.{IsTracedOf}
-use Rattle.refutation.specs.Tree.{TreeNode}
+use Rattle.split_trees.specs.Tree.{TreeNode}
 use Rattle.refutation.specs.TreeFault as tree_faults
 use Rattle.refutation.specs.declared.fault.TreeFault.{TreeFault}
 use Rattle.cert_file.specs.Certificate.{Certificate}

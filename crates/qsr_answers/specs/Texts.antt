@@ -1,7 +1,7 @@
 -- The lines that the commands write.
 use Rattle.std.specs.Prelude.{ℕ, List, [], ◌++◌, codes, if◌then◌else◌, nat_lt, count_by}
 use Rattle.std.specs.Fmt.{decimal}
-use Rattle.refutation.specs.Tree.{TreeNode, is_split}
+use Rattle.split_trees.specs.Tree.{TreeNode, is_split}
 use Rattle.qsr_inputs.specs.declared.statuses.Place.{Place}
 
 -- the line for words that ask for nothing

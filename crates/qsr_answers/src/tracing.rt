@@ -3,8 +3,8 @@ ghost use Rattle.std.specs.Prelude.{◌≡◌, ◌<◌, ◌^◌, length, All, If
 ghost use Rattle.std.specs.String.{string_bytes};
 ghost use Rattle.network_words.specs.Network.{IsNetwork};
 ghost use Rattle.cert_file.specs.Written.{IsScenarioFor};
-ghost use Rattle.refutation.specs.Tree.{AreFewSteps};
-ghost use Rattle.refutation.specs.Refutes.{IsRefutation};
+ghost use Rattle.split_trees.specs.Tree.{AreFewSteps};
+ghost use Rattle.split_trees.specs.Refutes.{IsRefutation};
 ghost use Rattle.qsr_answers.specs.Commands.{TracesCertificate};
 ghost use Rattle.qsr_answers.specs.Certificates.{IsAccepted, IsNotAccepted, IsTracedForm, HasTracedTree, FailsTree};
 

@@ -3,7 +3,7 @@ ghost use Rattle.std.specs.Prelude.{◌≤◌, ◌<◌, ◌^◌, ◌++◌, ◌�
 ghost use Rattle.std.specs.String.{string_bytes};
 ghost use Rattle.qsr_lex.specs.declared.TheConstants.{MAX_TEXT};
 ghost use Rattle.cert_file.specs.Written.{IsScenarioFor};
-ghost use Rattle.refutation.specs.Tree.{AreFewSteps};
+ghost use Rattle.split_trees.specs.Tree.{AreFewSteps};
 ghost use Rattle.qsr_words.specs.Requests.{check_of, IsCheck};
 ghost use Rattle.qsr_inputs.specs.Stops.{HasCause, IsRefusalOrMemory};
 ghost use Rattle.qsr_inputs.specs.Inputs.{CertificateIn, CertificateOf, ClaimedOf, IsOnRcc8};

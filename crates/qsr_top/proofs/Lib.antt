@@ -1,8 +1,2 @@
-pub mod CommandAnswers
-pub mod Working
 pub mod OneOutput
 pub mod SomeOutput
-pub mod Answering
-pub mod ScriptsSoFar
-pub mod AnsweredSoFar
-pub mod ServingRuns

@@ -15,7 +15,7 @@ use Rattle.qsr_answers.specs.Texts.{refusal_text}
 use Rattle.qsr_answers.proofs.CertificatesOnce.{IsSame, checks_once, traces_once}
 use Rattle.qsr_answers.proofs.RelatedOnce.{relates_once}
 use Rattle.qsr_answers.proofs.AnswersOnce.{closes_once, solves_once, demonstrates_once}
-use Rattle.qsr_top.specs.Output.{OutputOf, LongOutput, Works, Makes}
+use Rattle.qsr_commands.specs.Output.{OutputOf, LongOutput, Works, Makes}
 use Rattle.qsr_top.specs.Laws.{OutputIsOne}
 
 -- ---- what a command makes of its input

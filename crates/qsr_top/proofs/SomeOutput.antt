@@ -13,9 +13,9 @@ use Rattle.qsr_inputs.proofs.InputsThere.{There, value, stops, Then-there, IsOfW
 use Rattle.qsr_answers.specs.Texts.{usage_text, refusal_text}
 use Rattle.qsr_answers.proofs.SomeCertificates.{Made, checks_there, traces_there}
 use Rattle.qsr_answers.proofs.SomeAnswers.{closes, solves}
-use Rattle.qsr_top.specs.Output.{Makes}
+use Rattle.qsr_commands.specs.Output.{Makes}
 use Rattle.qsr_top.specs.Laws.{HasOutput, OutputIsThere}
-use Rattle.qsr_top.proofs.Working.{working_output, long_output}
+use Rattle.qsr_commands.proofs.Working.{working_output, long_output}
 
 -- ---- a command
 

@@ -5,7 +5,7 @@ use Rattle.qsr_words.specs.Asked.{Asked, close, solve, check, trace, relate, ser
 use Rattle.qsr_words.specs.Requests.{FitsCalculus}
 use Rattle.qsr_inputs.specs.Told.{named_documents, is_served}
 use Rattle.qsr_inputs.specs.declared.statuses.Status.{Status}
-use Rattle.qsr_top.specs.Output.{Output}
+use Rattle.qsr_commands.specs.Output.{Output}
 
 -- one text and one status at most, but for scripts, where peeks may show different sets
 abbrev pub OutputIsOne : Type 0

@@ -1,10 +1,3 @@
-pub mod Ends
-pub mod Serving
-pub mod Output
-pub mod Spoken
-pub mod SinkAfter
-pub mod Answers
-pub mod Runs
 pub mod Laws
 pub use Rattle.qsr_inputs.specs.Told
 pub use Rattle.qsr_answers.specs.Texts

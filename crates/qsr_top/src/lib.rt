@@ -6,11 +6,8 @@
 //! ```
 #![tactic(auto)]
 
-mod commands;
 mod laws;
 mod running;
-mod serving;
-mod writing;
 
 pub use laws::output_is_one;
 pub use qsr_inputs::{Place, Status};

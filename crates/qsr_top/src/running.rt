@@ -10,17 +10,16 @@ ghost use Rattle.qsr_words.specs.Requests.{asked_of, IsWithinLimits};
 ghost use Rattle.qsr_inputs.specs.Told.{WhereTold, SourceWaits, AbsentStays, AfterSource, named_documents};
 ghost use Rattle.qsr_answers.specs.Texts.{usage_text};
 ghost use Rattle.qsr_answers.specs.Commands.{IsAnswered};
-ghost use Rattle.qsr_top.specs.Ends.{MayEnd, IsLongEnd};
-ghost use Rattle.qsr_top.specs.SinkAfter.{LeavesInSink, LeavesByStatus};
-ghost use Rattle.qsr_top.specs.Runs.{Runs};
+ghost use Rattle.qsr_commands.specs.Ends.{MayEnd, IsLongEnd};
+ghost use Rattle.qsr_commands.specs.SinkAfter.{LeavesInSink, LeavesByStatus};
+ghost use Rattle.qsr_commands.specs.Runs.{Runs};
 
-use crate::commands::{
-    check_answer, close_answer, demo_answer, relate_answer, solve_answer, trace_answer,
-};
-use crate::serving::serve_script;
-use crate::writing::write_answer;
 use calculus_table::Memory;
 use qsr_answers::usage;
+use qsr_commands::{
+    check_answer, close_answer, demo_answer, relate_answer, serve_script, solve_answer,
+    trace_answer, write_answer,
+};
 use qsr_inputs::{Status, Stop};
 use qsr_lex::MAX_TEXT;
 use qsr_outside::{Gate, Shelf, Sink, Source};

@@ -1,10 +1,10 @@
 -- Leaves that hold nothing beside their kinds and steps.
 use Rattle.std.proofs.Common.{◌≡◌, ℕ, List, [], ◌∷◌, map, All, sym, ap, ◌∙◌}
 use Rattle.std.proofs.lemmas.List.Elements.{All-nil, All-cons, All-head, All-tail}
-use Rattle.refutation.specs.declared.tree.Kind.{Kind}
-use Rattle.refutation.specs.declared.tree.Kind.TheVariants.{Empty, Found, Open, Later, Split}
-use Rattle.refutation.specs.Tree.{TreeNode, NodeSteps, sweep, leaf_node, bare, IsBareLeaf, HasBareLeaves}
-use Rattle.refutation.proofs.Pendings.{head-same, tail-same}
+use Rattle.split_trees.specs.declared.tree.Kind.{Kind}
+use Rattle.split_trees.specs.declared.tree.Kind.TheVariants.{Empty, Found, Open, Later, Split}
+use Rattle.split_trees.specs.Tree.{TreeNode, NodeSteps, sweep, leaf_node, bare, IsBareLeaf, HasBareLeaves}
+use Rattle.stepped_networks.proofs.ListEnds.{head-same, tail-same}
 
 abbrev node_with : Kind → ℕ → ℕ → List ℕ → List ℕ → NodeSteps → TreeNode
 node_with kind i j parts children steps = record { kind = kind; i = i; j = j; parts = parts; children = children; steps = steps }

@@ -3,8 +3,9 @@ use Rattle.std.proofs.Common.{◌≡◌, ℕ, zero, suc, ◌+◌, ◌<◌, ◌�
 use Rattle.std.specs.Prelude.{slice_index, slice_set}
 use Rattle.std.proofs.lemmas.List.{length-drop, drop-drop, length-set, get_or-set_same, get_or-set_other}
 use Rattle.std.proofs.lemmas.Bool.{cases_eq}
-use Rattle.refutation.specs.Tree.{TreeNode}
-use Rattle.refutation.specs.TreeFault.{arity, nodes_of, child_number}
+use Rattle.split_trees.specs.Tree.{TreeNode}
+use Rattle.refutation.specs.TreeFault.{nodes_of, child_number}
+use Rattle.split_trees.specs.Tree.{arity}
 use Rattle.refutation.specs.Ends.{AreEnds}
 use Rattle.refutation.proofs.Pendings.{drop-there}
 

@@ -12,14 +12,14 @@ use Rattle.network_words.specs.Network.{IsNetwork}
 use Rattle.network_words.proofs.Existence.{closure_of}
 use Rattle.refutation.specs.declared.fault.TreeFault.{TreeFault}
 use Rattle.refutation.specs.declared.fault.TreeFault.TheVariants.{Uncovered, NotEmpty, BadTree, BadStep, Memory}
-use Rattle.refutation.specs.declared.tree.Kind.{Kind}
-use Rattle.refutation.specs.declared.tree.Kind.TheVariants.{Empty, Found, Open, Later, Split}
-use Rattle.refutation.specs.declared.tree.Step.{Step}
-use Rattle.refutation.specs.Tree.{TreeNode, NodeSteps, sweep, listed, NestedTree, leaf, split, Branches, no_branches, branch, leaf_node, size, parts_of, AreSteps, IsTree, AreTrees}
-use Rattle.refutation.specs.Refutes.{IsWorked, IsCovered, after_steps, met_at, union_of, Refutes, EachRefutes, IsRefutation}
+use Rattle.split_trees.specs.declared.tree.Kind.{Kind}
+use Rattle.split_trees.specs.declared.tree.Kind.TheVariants.{Empty, Found, Open, Later, Split}
+use Rattle.split_trees.specs.declared.tree.Step.{Step}
+use Rattle.split_trees.specs.Tree.{TreeNode, NodeSteps, sweep, listed, NestedTree, leaf, split, Branches, no_branches, branch, leaf_node, size, parts_of, AreSteps, IsTree, AreTrees}
+use Rattle.split_trees.specs.Refutes.{IsWorked, IsCovered, after_steps, met_at, union_of, Refutes, EachRefutes, IsRefutation}
 use Rattle.refutation.specs.TreeFault.{nodes_of, child_number, HasNumbers, IsSplitAt, HasForm, IsFormed, AreFormed, IsReached, HasBadStep, IsFormFault, IsLeafFault, IsFirstFault, IsFirstFaultAmong}
 use Rattle.refutation.specs.Laws.{Fault}
-use Rattle.refutation.proofs.Worked.{worked-network, met_at-network}
+use Rattle.stepped_networks.proofs.Worked.{worked-network, met_at-network}
 use Rattle.refutation.proofs.Forests.{tree_of-formed}
 
 -- ---- what is decided

@@ -7,13 +7,13 @@ use Rattle.network_words.specs.Edge.{edge_at, IsProperTriple}
 use Rattle.network_words.proofs.Networks.{IsClosure-unique}
 use Rattle.refutation.specs.declared.fault.TreeFault.{TreeFault}
 use Rattle.refutation.specs.declared.fault.TreeFault.TheVariants.{Uncovered, NotEmpty, BadTree, BadStep, Memory}
-use Rattle.refutation.specs.declared.tree.Kind.{Kind}
-use Rattle.refutation.specs.declared.tree.Kind.TheVariants.{Empty, Found, Open, Later, Split}
-use Rattle.refutation.specs.declared.tree.Step.{Step}
-use Rattle.refutation.specs.Tree.{TreeNode, NodeSteps, sweep, listed, NestedTree, leaf, split, Branches, no_branches, branch, leaf_node, bare, size, parts_of, preorder, preorder_of_all, AreSteps, IsTree, AreTrees, StandsFor}
-use Rattle.refutation.specs.Refutes.{IsWorked, IsCovered, met_at, Refutes, EachRefutes, IsRefutation}
+use Rattle.split_trees.specs.declared.tree.Kind.{Kind}
+use Rattle.split_trees.specs.declared.tree.Kind.TheVariants.{Empty, Found, Open, Later, Split}
+use Rattle.split_trees.specs.declared.tree.Step.{Step}
+use Rattle.split_trees.specs.Tree.{TreeNode, NodeSteps, sweep, listed, NestedTree, leaf, split, Branches, no_branches, branch, leaf_node, bare, size, parts_of, preorder, preorder_of_all, AreSteps, IsTree, AreTrees, StandsFor}
+use Rattle.split_trees.specs.Refutes.{IsWorked, IsCovered, met_at, Refutes, EachRefutes, IsRefutation}
 use Rattle.refutation.specs.TreeFault.{HasForm, IsFormed, IsReached, IsFirstBadForm, IsFirstBadSteps, HasBadStep, IsFormFault, IsLeafFault, IsFirstFault, IsFirstFaultAmong, IsFaultOf}
-use Rattle.refutation.proofs.Pendings.{head-same, tail-same, append-nil}
+use Rattle.stepped_networks.proofs.ListEnds.{head-same, tail-same, append-nil}
 use Rattle.refutation.proofs.Numbered.{formed-tree}
 
 -- ---- networks

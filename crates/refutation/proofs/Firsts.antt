@@ -4,13 +4,13 @@ use Rattle.std.specs.Prelude.{All}
 use Rattle.std.proofs.lemmas.Option.{slice_get-get_or}
 use Rattle.calculus_table.specs.Algebra.{Algebra}
 use Rattle.network_words.specs.Network.{IsNetwork}
-use Rattle.refutation.specs.declared.tree.Kind.TheVariants.{Empty}
-use Rattle.refutation.specs.Tree.{TreeNode, sweep, leaf_node}
-use Rattle.refutation.specs.Refutes.{IsWorked}
+use Rattle.split_trees.specs.declared.tree.Kind.TheVariants.{Empty}
+use Rattle.split_trees.specs.Tree.{TreeNode, sweep, leaf_node}
+use Rattle.split_trees.specs.Refutes.{IsWorked}
 use Rattle.refutation.specs.TreeFault.{AreFormed}
-use Rattle.refutation.specs.Networks.{NetworkStack, IsStackOf}
+use Rattle.stepped_networks.specs.Networks.{NetworkStack, IsStackOf}
 use Rattle.refutation.specs.Ways.{IsArrived, IsFirstStack}
-use Rattle.refutation.proofs.Worked.{worked-network}
+use Rattle.stepped_networks.proofs.Worked.{worked-network}
 use Rattle.refutation.proofs.Pendings.{visiting-first}
 use Rattle.refutation.proofs.Forests.{tree_of-formed}
 

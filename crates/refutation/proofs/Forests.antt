@@ -5,11 +5,13 @@ use Rattle.std.proofs.lemmas.Bool.{cases_lt}
 use Rattle.std.proofs.lemmas.List.{length-drop, length-map}
 use Rattle.std.proofs.lemmas.Grind.{same_number_lists}
 use Rattle.std.proofs.lemmas.Option.{slice_get-get_or}
-use Rattle.refutation.specs.declared.tree.Kind.{Kind}
-use Rattle.refutation.specs.declared.tree.Kind.TheVariants.{Empty, Found, Open, Later, Split}
-use Rattle.refutation.specs.Tree.{TreeNode, sweep, NestedTree, leaf, split, Branches, no_branches, branch, is_split, is_split_kind, leaf_node, bare, size, size_of_all, parts_of, numbers_from, preorder, preorder_of_all, IsTree, AreTrees, StandsFor}
-use Rattle.refutation.specs.TreeFault.{arity, nodes_of, IsSplitAt, IsFormed, AreFormed}
-use Rattle.refutation.proofs.Pendings.{drop-there, append-nil, bare-split}
+use Rattle.split_trees.specs.declared.tree.Kind.{Kind}
+use Rattle.split_trees.specs.declared.tree.Kind.TheVariants.{Empty, Found, Open, Later, Split}
+use Rattle.split_trees.specs.Tree.{TreeNode, sweep, NestedTree, leaf, split, Branches, no_branches, branch, is_split, is_split_kind, leaf_node, bare, size, size_of_all, parts_of, numbers_from, preorder, preorder_of_all, IsTree, AreTrees, StandsFor}
+use Rattle.refutation.specs.TreeFault.{nodes_of, IsSplitAt, IsFormed, AreFormed}
+use Rattle.split_trees.specs.Tree.{arity}
+use Rattle.stepped_networks.proofs.ListEnds.{append-nil}
+use Rattle.refutation.proofs.Pendings.{drop-there, bare-split}
 
 -- ---- trees one after another
 

@@ -9,9 +9,9 @@ use Rattle.network_words.specs.Edge.{edge_count, edge_at}
 use Rattle.network_words.specs.Network.{IsNetwork}
 use Rattle.network_words.specs.Scenario.{IsScenario}
 use Rattle.network_words.proofs.Edges.{edge_at-lt}
-use Rattle.refutation.specs.Tree.{TreeNode, NestedTree, leaf, split, Branches, no_branches, branch, parts_of, IsTree, AreTrees}
-use Rattle.refutation.specs.Refutes.{met_at, union_of, Refutes, EachRefutes, IsRefutation}
-use Rattle.refutation.proofs.Worked.{worked-network, worked-scenario, met_at-network, met_at-scenario}
+use Rattle.split_trees.specs.Tree.{TreeNode, NestedTree, leaf, split, Branches, no_branches, branch, parts_of, IsTree, AreTrees}
+use Rattle.split_trees.specs.Refutes.{met_at, union_of, Refutes, EachRefutes, IsRefutation}
+use Rattle.stepped_networks.proofs.Worked.{worked-network, worked-scenario, met_at-network, met_at-scenario}
 
 module _ (m : Algebra) (n : ℕ) (relations : List ℕ) (k : IsCalculus m) where
   none-empty : (words : List ℕ) → IsNetwork m n words → Contains words 0 → IsScenario m n words relations → ⊥

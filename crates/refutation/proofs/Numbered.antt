@@ -4,11 +4,13 @@ use Rattle.std.specs.Prelude.{slice_index}
 use Rattle.std.proofs.lemmas.Bool.{cases_lt, cases_eq}
 use Rattle.std.proofs.lemmas.List.{length-map, length-drop, drop-drop}
 use Rattle.std.proofs.lemmas.Option.{slice_get_within}
-use Rattle.refutation.specs.declared.tree.Kind.{Kind}
-use Rattle.refutation.specs.declared.tree.Kind.TheVariants.{Empty, Found, Open, Later, Split}
-use Rattle.refutation.specs.Tree.{TreeNode, NodeSteps, NestedTree, leaf, split, Branches, no_branches, branch, is_split, is_split_kind, leaf_node, bare, size, size_of_all, parts_of, numbers_from, preorder, preorder_of_all, AreSteps, IsTree, AreTrees, StandsFor}
-use Rattle.refutation.specs.TreeFault.{arity, nodes_of, HasNumbers, IsSplitAt, AreFormed}
-use Rattle.refutation.proofs.Pendings.{drop-there, append-nil, bare-split, bare-kind, bare-steps, head-same, tail-same}
+use Rattle.split_trees.specs.declared.tree.Kind.{Kind}
+use Rattle.split_trees.specs.declared.tree.Kind.TheVariants.{Empty, Found, Open, Later, Split}
+use Rattle.split_trees.specs.Tree.{TreeNode, NodeSteps, NestedTree, leaf, split, Branches, no_branches, branch, is_split, is_split_kind, leaf_node, bare, size, size_of_all, parts_of, numbers_from, preorder, preorder_of_all, AreSteps, IsTree, AreTrees, StandsFor}
+use Rattle.refutation.specs.TreeFault.{nodes_of, HasNumbers, IsSplitAt, AreFormed}
+use Rattle.split_trees.specs.Tree.{arity}
+use Rattle.stepped_networks.proofs.ListEnds.{append-nil, head-same, tail-same}
+use Rattle.refutation.proofs.Pendings.{drop-there, bare-split, bare-kind, bare-steps}
 use Rattle.refutation.proofs.Forests.{length-preorder, length-preorder_of_all, size-some}
 
 -- ---- nodes counted in a list without what leaves hold

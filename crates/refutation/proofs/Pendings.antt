@@ -6,13 +6,14 @@ use Rattle.calculus_table.specs.Algebra.{Algebra}
 use Rattle.network_words.specs.Edge.{edge_at}
 use Rattle.network_words.specs.Network.{IsNetwork}
 use Rattle.refutation.specs.declared.fault.TreeFault.{TreeFault}
-use Rattle.refutation.specs.declared.tree.Kind.{Kind}
-use Rattle.refutation.specs.declared.tree.Kind.TheVariants.{Empty, Found, Open, Later, Split}
+use Rattle.split_trees.specs.declared.tree.Kind.{Kind}
+use Rattle.split_trees.specs.declared.tree.Kind.TheVariants.{Empty, Found, Open, Later, Split}
 use Rattle.refutation.specs.declared.walking.Entered.{Entered}
-use Rattle.refutation.specs.Tree.{TreeNode, NodeSteps, NestedTree, leaf, split, Branches, no_branches, branch, is_split, is_split_kind, leaf_node, bare, size, size_of_all, parts_of, numbers_from, preorder, preorder_of_all, split_parts, AreTrees, StandsFor}
-use Rattle.refutation.specs.Refutes.{IsWorked, IsCovered, met_at, Refutes, EachRefutes, IsRefutation}
+use Rattle.split_trees.specs.Tree.{TreeNode, NodeSteps, NestedTree, leaf, split, Branches, no_branches, branch, is_split, is_split_kind, leaf_node, bare, size, size_of_all, parts_of, numbers_from, preorder, preorder_of_all, split_parts, AreTrees, StandsFor}
+use Rattle.split_trees.specs.Refutes.{IsWorked, IsCovered, met_at, Refutes, EachRefutes, IsRefutation}
 use Rattle.refutation.specs.TreeFault.{IsLeafFault, IsFirstFaultAmong, IsNetworkFault}
 use Rattle.refutation.specs.Ways.{IsSoundKind, IsSound, IsFaultAtKind, IsFaultAt, Pending, pending_of, nodes_pending, AreTreesPending, AllRefute, IsFirstPending, ArePending, IsOnWay, IsWay, IsStanding, IsVisiting}
+use Rattle.stepped_networks.proofs.ListEnds.{head-same, tail-same, append-nil}
 
 -- ---- a node and what is bare of it
 
@@ -62,16 +63,6 @@ pub drop-there : {A : Type 0} (xs : List A) (x : ℕ) (a : A) → slice_get xs x
 drop-there xs x a e =
     let d : drop x xs ≡ get_or xs x a ∷ drop (suc x) xs = drop-cons xs x a (slice_get_within xs x a e) in
     d ∙ ap (λ y. y ∷ drop (suc x) xs) (get_or_from_slice_get xs x a a e) ∙ ap (λ k. a ∷ drop k xs) (sym (add-one x))
-
-pub head-same : {A : Type 0} (a b : A) (xs ys : List A) → a ∷ xs ≡ b ∷ ys → a ≡ b
-head-same a b xs ys e = cc
-
-pub tail-same : {A : Type 0} (a b : A) (xs ys : List A) → a ∷ xs ≡ b ∷ ys → xs ≡ ys
-tail-same a b xs ys e = cc
-
-pub append-nil : {A : Type 0} (xs : List A) → xs ++ [] ≡ xs
-append-nil [] = refl
-append-nil (x ∷ xs) = ap (λ ys. x ∷ ys) (append-nil xs)
 
 -- ---- branches as pending trees
 

@@ -6,10 +6,10 @@ use Rattle.calculus_table.specs.Algebra.{Algebra}
 use Rattle.calculus_table.specs.Calculus.{IsCalculus}
 use Rattle.network_words.specs.Network.{IsNetwork}
 use Rattle.network_words.proofs.Networks.{Refines-refl}
-use Rattle.refutation.specs.Tree.{TreeNode, NodeSteps, sweep, NestedTree, leaf, split, Branches, no_branches, branch, leaf_node, bare, size, parts_of, numbers_from, preorder, preorder_of_all, IsTree, AreTrees, HasBareLeaves}
-use Rattle.refutation.specs.declared.tree.Kind.{Kind}
-use Rattle.refutation.specs.declared.tree.Kind.TheVariants.{Empty, Found, Open, Later, Split}
-use Rattle.refutation.specs.Refutes.{Refutes, IsRefutation}
+use Rattle.split_trees.specs.Tree.{TreeNode, NodeSteps, sweep, NestedTree, leaf, split, Branches, no_branches, branch, leaf_node, bare, size, parts_of, numbers_from, preorder, preorder_of_all, IsTree, AreTrees, HasBareLeaves}
+use Rattle.split_trees.specs.declared.tree.Kind.{Kind}
+use Rattle.split_trees.specs.declared.tree.Kind.TheVariants.{Empty, Found, Open, Later, Split}
+use Rattle.split_trees.specs.Refutes.{Refutes, IsRefutation}
 use Rattle.refutation.specs.Traced.{IsTracedOf}
 use Rattle.refutation.specs.Tracings.{shape_of}
 use Rattle.refutation.proofs.Exact.{tree-one}

@@ -14,16 +14,16 @@ use Rattle.network_words.specs.Network.{IsNetwork, Refines}
 use Rattle.network_words.specs.Closure.{IsClosure}
 use Rattle.network_words.proofs.Networks.{Refines-trans, set-cases}
 use Rattle.network_words.proofs.Refinements.{IsNetwork-refines}
-use Rattle.refutation.specs.declared.tree.Kind.TheVariants.{Split}
-use Rattle.refutation.specs.declared.tree.Step.{Step}
-use Rattle.refutation.specs.Tree.{TreeNode, NodeSteps, sweep, listed, NestedTree, leaf, split, Branches, no_branches, branch, size, parts_of, preorder, preorder_of_all, AreSteps, IsTree, AreTrees, leaf_node, IsBareLeaf, HasBareLeaves}
-use Rattle.refutation.specs.Refutes.{after_step, after_steps, IsWorked, met_at, IsCovered, Refutes, EachRefutes}
-use Rattle.refutation.specs.RuledSteps.{NoneEmptyBefore, AreCutSteps}
+use Rattle.split_trees.specs.declared.tree.Kind.TheVariants.{Split}
+use Rattle.split_trees.specs.declared.tree.Step.{Step}
+use Rattle.split_trees.specs.Tree.{TreeNode, NodeSteps, sweep, listed, NestedTree, leaf, split, Branches, no_branches, branch, size, parts_of, preorder, preorder_of_all, AreSteps, IsTree, AreTrees, leaf_node, IsBareLeaf, HasBareLeaves}
+use Rattle.split_trees.specs.Refutes.{after_step, after_steps, IsWorked, met_at, IsCovered, Refutes, EachRefutes}
+use Rattle.stepped_networks.specs.RuledSteps.{NoneEmptyBefore, AreCutSteps}
 use Rattle.refutation.specs.Traced.{HasShape, HaveShape, IsRuled, EachRuled}
-use Rattle.refutation.proofs.Pendings.{append-nil}
+use Rattle.stepped_networks.proofs.ListEnds.{append-nil}
 use Rattle.refutation.proofs.Decided.{contains_empty}
-use Rattle.refutation.proofs.Worked.{after_steps-network, met_at-refines, met_at-network, worked-network}
-use Rattle.refutation.proofs.RuledSteps.{IsProperStep, All-front, KeepsClosed-steps, ruled_steps, ruled-proper, ruled-closure}
+use Rattle.stepped_networks.proofs.Worked.{after_steps-network, met_at-refines, met_at-network, worked-network}
+use Rattle.stepped_networks.proofs.RuledSteps.{IsProperStep, All-front, KeepsClosed-steps, ruled_steps, ruled-proper, ruled-closure}
 
 -- ---- networks within others
 

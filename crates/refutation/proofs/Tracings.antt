@@ -4,21 +4,22 @@ use Rattle.calculus_table.specs.Algebra.{Algebra}
 use Rattle.calculus_table.specs.Calculus.{IsCalculus}
 use Rattle.network_words.specs.Edge.{edge_at}
 use Rattle.network_words.specs.Network.{IsNetwork}
-use Rattle.refutation.specs.declared.tree.Kind.{Kind}
-use Rattle.refutation.specs.declared.tree.Kind.TheVariants.{Empty, Found, Open, Later, Split}
-use Rattle.refutation.specs.declared.tree.Step.{Step}
+use Rattle.split_trees.specs.declared.tree.Kind.{Kind}
+use Rattle.split_trees.specs.declared.tree.Kind.TheVariants.{Empty, Found, Open, Later, Split}
+use Rattle.split_trees.specs.declared.tree.Step.{Step}
 use Rattle.refutation.specs.declared.walking.Entered.{Entered}
-use Rattle.refutation.specs.Tree.{TreeNode, NodeSteps, sweep, listed, NestedTree, leaf, split, Branches, no_branches, branch, is_split, is_split_kind, leaf_node, bare, size, size_of_all, parts_of, numbers_from, preorder, preorder_of_all, split_parts, StandsFor}
-use Rattle.refutation.specs.Refutes.{after_steps, met_at, IsRefutation}
-use Rattle.refutation.specs.RuledSteps.{AreCutSteps}
+use Rattle.split_trees.specs.Tree.{TreeNode, NodeSteps, sweep, listed, NestedTree, leaf, split, Branches, no_branches, branch, is_split, is_split_kind, leaf_node, bare, size, size_of_all, parts_of, numbers_from, preorder, preorder_of_all, split_parts, StandsFor}
+use Rattle.split_trees.specs.Refutes.{after_steps, met_at, IsRefutation}
+use Rattle.stepped_networks.specs.RuledSteps.{AreCutSteps}
 use Rattle.refutation.specs.Traced.{HasShape, HaveShape, IsRuled, EachRuled, IsTracedOf}
 use Rattle.refutation.specs.Ways.{Pending, pending_of, nodes_pending, IsWay, HasLast, IsFinished}
-use Rattle.refutation.specs.Passes.{AreStepsOf}
+use Rattle.stepped_networks.specs.Passes.{AreStepsOf}
 use Rattle.refutation.specs.Tracings.{with_steps, shape_of, is_cut, AllRuled, AreLeft, IsTracing, IsTracingAt}
-use Rattle.refutation.proofs.Pendings.{bare-kind, bare-split, drop-there, head-same, tail-same, append-nil, nodes_pending-of, way-finished, way-next}
-use Rattle.refutation.proofs.RuledSteps.{ruled-unique, cut-unique}
+use Rattle.stepped_networks.proofs.ListEnds.{head-same, tail-same, append-nil}
+use Rattle.refutation.proofs.Pendings.{bare-kind, bare-split, drop-there, nodes_pending-of, way-finished, way-next}
+use Rattle.stepped_networks.proofs.RuledSteps.{ruled-unique, cut-unique}
 use Rattle.refutation.proofs.TracedTrees.{traced_tree}
-use Rattle.refutation.proofs.Worked.{after_steps-network}
+use Rattle.stepped_networks.proofs.Worked.{after_steps-network}
 
 -- ---- shapes
 

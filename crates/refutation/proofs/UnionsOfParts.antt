@@ -4,7 +4,7 @@ use Rattle.std.specs.Prelude.{bit_or}
 use Rattle.std.specs.Int.Bits.{or_zero_r}
 use Rattle.std.proofs.Math.Seq.{drop-cons}
 use Rattle.calculus_table.proofs.Sets.{IsWithin-antisym, Has-union, Has-union_l, Has-union_r}
-use Rattle.refutation.specs.Refutes.{union_of}
+use Rattle.split_trees.specs.Refutes.{union_of}
 
 pub union_assoc : (a b c : ℕ) → bit_or (bit_or a b) c ≡ bit_or a (bit_or b c)
 union_assoc a b c = IsWithin-antisym (bit_or (bit_or a b) c) (bit_or a (bit_or b c))

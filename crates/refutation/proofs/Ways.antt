@@ -5,12 +5,12 @@ use Rattle.std.proofs.lemmas.List.{reverse-append, reverse-reverse, length-appen
 use Rattle.std.proofs.lemmas.Option.{slice_get_read, slice_get_within, same_Some}
 use Rattle.calculus_table.specs.Algebra.{Algebra}
 use Rattle.network_words.specs.Network.{IsNetwork}
-use Rattle.refutation.specs.declared.tree.Kind.{Kind}
-use Rattle.refutation.specs.declared.tree.Kind.TheVariants.{Empty, Found, Open, Later, Split}
+use Rattle.split_trees.specs.declared.tree.Kind.{Kind}
+use Rattle.split_trees.specs.declared.tree.Kind.TheVariants.{Empty, Found, Open, Later, Split}
 use Rattle.refutation.specs.declared.walking.Entered.{Entered}
-use Rattle.refutation.specs.Tree.{TreeNode, is_split_kind, split_parts}
+use Rattle.split_trees.specs.Tree.{TreeNode, is_split_kind, split_parts}
 use Rattle.refutation.specs.TreeFault.{AreFormed, IsSplitAt}
-use Rattle.refutation.specs.Networks.{NetworkStack}
+use Rattle.stepped_networks.specs.Networks.{NetworkStack}
 use Rattle.refutation.specs.Ways.{IsStanding, HasLast, IsFinished}
 use Rattle.refutation.proofs.Pendings.{standing-left, standing-finished}
 

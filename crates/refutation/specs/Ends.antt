@@ -1,6 +1,6 @@
 -- Where the nodes under each node end.
 use Rattle.std.specs.Prelude.{◌≡◌, ℕ, ◌+◌, ◌≤◌, List, length, drop, slice_index}
-use Rattle.refutation.specs.Tree.{TreeNode}
+use Rattle.split_trees.specs.Tree.{TreeNode}
 use Rattle.refutation.specs.TreeFault.{nodes_of}
 
 -- for each node from `from` up the number after the last node under it, and after the last node of all

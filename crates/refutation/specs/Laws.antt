@@ -5,12 +5,12 @@ use Rattle.calculus_table.specs.Calculus.{IsCalculus}
 use Rattle.network_words.specs.Network.{IsNetwork}
 use Rattle.network_words.specs.Scenario.{IsScenario}
 use Rattle.network_words.specs.Closure.{IsClosure}
-use Rattle.refutation.specs.Tree.{TreeNode, sweep, bare, HasBareLeaves}
+use Rattle.split_trees.specs.Tree.{TreeNode, sweep, bare, HasBareLeaves}
 use Rattle.refutation.specs.declared.fault.TreeFault.{TreeFault}
 use Rattle.refutation.specs.declared.fault.TreeFault.TheVariants.{Memory}
-use Rattle.refutation.specs.declared.tree.Step.{Step}
-use Rattle.refutation.specs.Refutes.{after_steps, IsRefutation}
-use Rattle.refutation.specs.RuledSteps.{AreRuledSteps}
+use Rattle.split_trees.specs.declared.tree.Step.{Step}
+use Rattle.split_trees.specs.Refutes.{after_steps, IsRefutation}
+use Rattle.stepped_networks.specs.RuledSteps.{AreRuledSteps}
 use Rattle.refutation.specs.Traced.{IsTracedOf}
 use Rattle.refutation.specs.TreeFault.{IsFaultOf}
 

@@ -1,16 +1,6 @@
-pub mod Tree
-pub mod Steps
-pub mod Refutes
 pub mod TreeFault
 pub mod Ends
-pub mod Compositions
-pub mod Composers
-pub mod Rows
-pub mod Networks
 pub mod Ways
-pub mod Stacks
-pub mod RuledSteps
 pub mod Traced
-pub mod Passes
 pub mod Tracings
 pub mod Laws

@@ -2,11 +2,11 @@
 use Rattle.std.specs.Prelude.{◌≡◌, ℕ, List}
 use Rattle.calculus_table.specs.Algebra.{Algebra}
 use Rattle.network_words.specs.Edge.{edge_at}
-use Rattle.refutation.specs.declared.tree.Kind.TheVariants.{Empty}
-use Rattle.refutation.specs.declared.tree.Step.{Step}
-use Rattle.refutation.specs.Tree.{TreeNode, listed, NestedTree, leaf, split, Branches, no_branches, branch, preorder, StandsFor}
-use Rattle.refutation.specs.Refutes.{after_steps, met_at}
-use Rattle.refutation.specs.RuledSteps.{AreRuledSteps, AreCutSteps}
+use Rattle.split_trees.specs.declared.tree.Kind.TheVariants.{Empty}
+use Rattle.split_trees.specs.declared.tree.Step.{Step}
+use Rattle.split_trees.specs.Tree.{TreeNode, listed, NestedTree, leaf, split, Branches, no_branches, branch, preorder, StandsFor}
+use Rattle.split_trees.specs.Refutes.{after_steps, met_at}
+use Rattle.stepped_networks.specs.RuledSteps.{AreRuledSteps, AreCutSteps}
 
 -- the trees are one, but for the steps
 abbrev mutual

@@ -1,14 +1,14 @@
 -- A tree while it is traced: what is still to be traced.
 use Rattle.std.specs.Prelude.{◌≡◌, ℕ, not, Bool, List, [], ◌∷◌, ◌++◌, map, drop, slice_get, Some}
 use Rattle.calculus_table.specs.Algebra.{Algebra}
-use Rattle.refutation.specs.declared.tree.Step.{Step}
+use Rattle.split_trees.specs.declared.tree.Step.{Step}
 use Rattle.refutation.specs.declared.walking.Entered.{Entered}
 use Rattle.network_words.specs.Network.{IsNetwork}
-use Rattle.refutation.specs.Tree.{TreeNode, NodeSteps, sweep, NestedTree, is_split, bare, preorder, StandsFor}
-use Rattle.refutation.specs.Refutes.{after_steps}
+use Rattle.split_trees.specs.Tree.{TreeNode, NodeSteps, sweep, NestedTree, is_split, bare, preorder, StandsFor}
+use Rattle.split_trees.specs.Refutes.{after_steps}
 use Rattle.refutation.specs.Ways.{Pending, nodes_pending, IsWay}
 use Rattle.refutation.specs.Traced.{HasShape, IsRuled}
-use Rattle.refutation.specs.Passes.{AreStepsOf}
+use Rattle.stepped_networks.specs.Passes.{AreStepsOf}
 
 -- the node with other steps, and without what a leaf holds beside its kind and steps
 abbrev pub with_steps : TreeNode → NodeSteps → TreeNode

@@ -4,17 +4,13 @@ use Rattle.calculus_table.specs.Algebra.{Algebra}
 use Rattle.network_words.specs.Edge.{edge_at, IsProperTriple}
 use Rattle.refutation.specs.declared.fault.TreeFault.{TreeFault}
 use Rattle.refutation.specs.declared.fault.TreeFault.TheVariants.{Uncovered, NotEmpty, BadTree, BadStep, Memory}
-use Rattle.refutation.specs.declared.tree.Kind.{Kind}
-use Rattle.refutation.specs.declared.tree.Kind.TheVariants.{Empty, Found, Open, Later, Split}
-use Rattle.refutation.specs.declared.tree.Step.{Step}
-use Rattle.refutation.specs.Tree.{TreeNode, listed, is_split, AreSteps, NestedTree, leaf, split, Branches, no_branches, branch, size, parts_of, StandsFor}
-use Rattle.refutation.specs.Refutes.{IsWorked, IsCovered, met_at, Refutes}
+use Rattle.split_trees.specs.declared.tree.Kind.{Kind}
+use Rattle.split_trees.specs.declared.tree.Kind.TheVariants.{Empty, Found, Open, Later, Split}
+use Rattle.split_trees.specs.declared.tree.Step.{Step}
+use Rattle.split_trees.specs.Tree.{TreeNode, listed, is_split, arity, AreSteps, NestedTree, leaf, split, Branches, no_branches, branch, size, parts_of, StandsFor}
+use Rattle.split_trees.specs.Refutes.{IsWorked, IsCovered, met_at, Refutes}
 
 -- ---- the form of a tree
-
--- the number of children that a node lists
-abbrev pub arity : TreeNode → ℕ
-arity node = if is_split node then length node.children else 0
 
 -- the number of nodes that k trees have at the front of the list, told by how many children each split lists
 abbrev pub nodes_of : ℕ → List TreeNode → ℕ

@@ -4,14 +4,14 @@ use Rattle.calculus_table.specs.Algebra.{Algebra}
 use Rattle.network_words.specs.Edge.{edge_at}
 use Rattle.refutation.specs.declared.fault.TreeFault.{TreeFault}
 use Rattle.refutation.specs.declared.fault.TreeFault.TheVariants.{Uncovered}
-use Rattle.refutation.specs.declared.tree.Kind.{Kind}
-use Rattle.refutation.specs.declared.tree.Kind.TheVariants.{Empty, Found, Open, Later, Split}
+use Rattle.split_trees.specs.declared.tree.Kind.{Kind}
+use Rattle.split_trees.specs.declared.tree.Kind.TheVariants.{Empty, Found, Open, Later, Split}
 use Rattle.network_words.specs.Network.{IsNetwork}
 use Rattle.refutation.specs.declared.walking.Entered.{Entered}
-use Rattle.refutation.specs.Tree.{TreeNode, sweep, NestedTree, Branches, no_branches, branch, size, preorder, parts_of, split_parts, bare, IsTree}
-use Rattle.refutation.specs.Refutes.{IsWorked, IsCovered, met_at, Refutes, IsRefutation}
+use Rattle.split_trees.specs.Tree.{TreeNode, sweep, NestedTree, Branches, no_branches, branch, size, preorder, parts_of, split_parts, bare, IsTree}
+use Rattle.split_trees.specs.Refutes.{IsWorked, IsCovered, met_at, Refutes, IsRefutation}
 use Rattle.refutation.specs.TreeFault.{IsLeafFault, IsFirstFault, IsNetworkFault, AreFormed}
-use Rattle.refutation.specs.Networks.{NetworkStack}
+use Rattle.stepped_networks.specs.Networks.{NetworkStack}
 
 -- nothing is wrong with a node, whose worked network has these sets
 abbrev pub IsSoundKind : ℕ → List ℕ → TreeNode → Kind → Type 0

@@ -6,16 +6,16 @@
 //! first pass costs what the list is long. The second works a network for each node.
 ghost use Rattle.std.specs.Prelude.{◌<◌, ◌^◌, All, MatchResult, length};
 ghost use Rattle.network_words.specs.Network.{IsNetwork};
-ghost use Rattle.refutation.specs.Tree.{AreFewSteps};
-ghost use Rattle.refutation.specs.Refutes.{IsRefutation};
+ghost use Rattle.split_trees.specs.Tree.{AreFewSteps};
+ghost use Rattle.split_trees.specs.Refutes.{IsRefutation};
 ghost use Rattle.refutation.specs.TreeFault.{IsFaultOf};
 
 use crate::fault::TreeFault;
 use crate::forms::check_forms;
-use crate::tree::Tree;
 use crate::walking::check_networks;
 use calculus_table::Compose;
 use network_words::Net;
+use split_trees::Tree;
 use std::alloc::Global;
 
 /// Whether the tree refutes the network: its first fault, if it doesn't.

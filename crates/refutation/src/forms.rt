@@ -8,14 +8,14 @@
 ghost use Rattle.std.specs.Prelude.{◌≡◌, ◌+◌, ◌<◌, ◌↔◌, ◌^◌, ◌⊎◌, IsTrue, length, All};
 ghost use Rattle.std.specs.Prelude.{IfOk, MatchOption, MatchResult};
 ghost use Rattle.network_words.specs.Edge.{IsProperTriple};
-ghost use Rattle.refutation.specs.Tree.{AreSteps, AreFewSteps};
+ghost use Rattle.split_trees.specs.Tree.{AreSteps, AreFewSteps};
 ghost use Rattle.refutation.specs.TreeFault.{child_number, IsSplitAt, HasForm};
 ghost use Rattle.refutation.specs.TreeFault.{HasNumbers, IsFirstBadStep, HasBadStep, AreFormed, IsFormFault};
 ghost use Rattle.refutation.specs.Ends.{AreEnds};
 
 use crate::fault::TreeFault;
-use crate::tree::{Node, Step, Steps};
 use calculus_table::Memory;
+use split_trees::{Node, Step, Steps};
 use std::alloc::Global;
 
 /// The number after the nodes of so many children of node `x`.

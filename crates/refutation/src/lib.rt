@@ -13,20 +13,14 @@
 #![tactic(auto)]
 
 mod checking;
-mod compositions;
 mod fault;
 mod forms;
 mod laws;
-mod networks;
-mod rows;
-mod ruling;
-mod stepped;
 mod tracing;
-mod tree;
 mod walking;
 
 pub use checking::check;
 pub use fault::TreeFault;
 pub use laws::{laws_of_refutations, laws_of_traced_trees};
+pub use split_trees::{Kind, Node, Step, Steps, Tree};
 pub use tracing::trace;
-pub use tree::{Kind, Node, Step, Steps, Tree};

@@ -8,23 +8,22 @@
 ghost use Rattle.std.specs.Prelude.{◌≡◌, ◌+◌, ◌<◌, ◌^◌, ◌++◌, ◌∷◌, [], List, All, IfOk, OnOk};
 ghost use Rattle.std.specs.Prelude.{MatchResult, length, reverse};
 ghost use Rattle.network_words.specs.Network.{IsNetwork};
-ghost use Rattle.refutation.specs.Tree.{TreeNode, AreFewSteps, HasBareLeaves, leaf_node, listed};
-ghost use Rattle.refutation.specs.Refutes.{IsRefutation};
+ghost use Rattle.split_trees.specs.Tree.{TreeNode, AreFewSteps, HasBareLeaves, leaf_node, listed};
+ghost use Rattle.split_trees.specs.Refutes.{IsRefutation};
 ghost use Rattle.refutation.specs.TreeFault.{AreFormed, IsFaultOf};
 ghost use Rattle.refutation.specs.Ways.{HasNext};
-ghost use Rattle.refutation.specs.RuledSteps.{all_steps};
+ghost use Rattle.stepped_networks.specs.RuledSteps.{all_steps};
 ghost use Rattle.refutation.specs.Traced.{IsTracedOf};
 ghost use Rattle.refutation.specs.Tracings.{with_steps, IsTracing, IsRuledAt};
 
 use crate::checking::check;
 use crate::fault::TreeFault;
-use crate::ruling::all_steps;
-use crate::stepped::Stepped;
-use crate::tree::{Kind, Node, Step, Steps, Tree};
 use crate::walking::{Entered, is_finished};
 use calculus_table::{Compose, Memory, lawful};
 use network_words::Net;
+use split_trees::{Kind, Node, Step, Steps, Tree};
 use std::alloc::Global;
+use stepped_networks::{Stepped, all_steps};
 
 /// The node with these steps: a split as it is, and of a leaf the kind alone.
 fn node_with_steps(alloc: Global, node: &Node, steps: Vec<Step>) -> Result<Node, Memory>

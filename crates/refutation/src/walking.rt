@@ -10,19 +10,19 @@ ghost use Rattle.std.specs.Prelude.{◌≡◌, ◌+◌, ◌<◌, ◌^◌, ◌⊎
 ghost use Rattle.std.specs.Prelude.{◌≤◌, ◌↔◌, IfOk, OnOk};
 ghost use Rattle.std.specs.Prelude.{MatchResult};
 ghost use Rattle.network_words.specs.Network.{IsNetwork};
-ghost use Rattle.refutation.specs.Tree.{sweep};
-ghost use Rattle.refutation.specs.Steps.{steps_count};
-ghost use Rattle.refutation.specs.Refutes.{IsRefutation, union_of};
+ghost use Rattle.split_trees.specs.Tree.{sweep};
+ghost use Rattle.split_trees.specs.Steps.{steps_count};
+ghost use Rattle.split_trees.specs.Refutes.{IsRefutation, union_of};
 ghost use Rattle.refutation.specs.TreeFault.{AreFormed, IsNetworkFault};
 ghost use Rattle.refutation.specs.Ways.{IsSound, IsFaultAt, IsStanding, IsArrived, HasLast, HasNext, IsReady};
 ghost use Rattle.refutation.specs.Ways.{IsFinished, IsFirstStack};
 
 use crate::fault::TreeFault;
-use crate::networks::Networks;
-use crate::tree::{Kind, Node, Steps};
 use calculus_table::{Compose, Memory, Rel};
 use network_words::Net;
+use split_trees::{Kind, Node, Steps};
 use std::alloc::Global;
+use stepped_networks::Networks;
 
 /// So many steps are many: four times as many as there are compositions to be made for a table.
 const MANY: usize = 4_096;

@@ -11,7 +11,7 @@ use Rattle.network_words.specs.Closure.{IsClosed}
 use Rattle.narrow_core.specs.Actor.{ActorState, fresh}
 use Rattle.narrow_core.specs.Bound.{IsWithinFact}
 use Rattle.edge_table.specs.Opening.{OpenState, IsPassOf, algebra_of}
-use Rattle.closure_workers.specs.Slices.{IsHeld}
+use Rattle.edge_slices.specs.Slices.{IsHeld}
 use Rattle.session_scripts.specs.declared.batch.What.{What}
 use Rattle.session_scripts.specs.declared.batch.What.TheVariants.{Assert, Peek, Withdraw, Ask, Refused}
 use Rattle.session_scripts.specs.Batches.{IsAsked}

@@ -12,7 +12,7 @@ ghost use Rattle.network_words.specs.Network.{IsNetwork};
 ghost use Rattle.network_words.specs.Closure.{IsClosed};
 ghost use Rattle.narrow_core.specs.Actor.{fresh};
 ghost use Rattle.edge_table.specs.Opening.{IsPassOf, algebra_of};
-ghost use Rattle.closure_workers.specs.Slices.{IsHeld};
+ghost use Rattle.edge_slices.specs.Slices.{IsHeld};
 ghost use Rattle.closure_workers.specs.Pieces.{AreHeld};
 ghost use Rattle.session_run.specs.Phase.{IsPiece, HasWorked};
 

@@ -4,9 +4,9 @@ use Rattle.std.specs.Prelude.{count_by}
 use Rattle.std.proofs.lemmas.List.Sums.{sum_by-append, sum_by-cons}
 use Rattle.calculus_table.specs.Algebra.{Algebra}
 use Rattle.network_words.specs.Edge.{edge_at}
-use Rattle.refutation.specs.declared.tree.Kind.{Kind}
-use Rattle.refutation.specs.declared.tree.Kind.TheVariants.{Empty, Found, Open, Later, Split}
-use Rattle.refutation.specs.Tree.{TreeNode, NodeSteps, sweep, leaf_node, is_split, is_split_kind, bare, NestedTree, leaf, split, Branches, no_branches, branch, parts_of, numbers_from, size, preorder, preorder_of_all}
+use Rattle.split_trees.specs.declared.tree.Kind.{Kind}
+use Rattle.split_trees.specs.declared.tree.Kind.TheVariants.{Empty, Found, Open, Later, Split}
+use Rattle.split_trees.specs.Tree.{TreeNode, NodeSteps, sweep, leaf_node, is_split, is_split_kind, bare, NestedTree, leaf, split, Branches, no_branches, branch, parts_of, numbers_from, size, preorder, preorder_of_all}
 use Rattle.split_search.specs.declared.verdict.Verdict.{Verdict}
 use Rattle.split_search.specs.declared.verdict.Verdict.TheVariants.{Yes, No, Budget}
 use Rattle.split_search.specs.Ruled.{IsDone, AreDone, End, Ends, EndsAmong, IsEndLeaf, AreLater, at_scenario, at_budget, splits, splits_of_all, IsVerdict}

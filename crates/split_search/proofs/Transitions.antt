@@ -7,8 +7,8 @@ use Rattle.network_words.specs.Edge.{edge_at}
 use Rattle.network_words.specs.Network.{IsNetwork}
 use Rattle.network_words.specs.Closure.{IsClosure}
 use Rattle.network_words.specs.Scenario.{as_network}
-use Rattle.refutation.specs.declared.tree.Kind.TheVariants.{Found, Open, Split}
-use Rattle.refutation.specs.Tree.{TreeNode, sweep, leaf_node, NestedTree, leaf, split, Branches, no_branches, branch, size, size_of_all, numbers_from, preorder, preorder_of_all}
+use Rattle.split_trees.specs.declared.tree.Kind.TheVariants.{Found, Open, Split}
+use Rattle.split_trees.specs.Tree.{TreeNode, sweep, leaf_node, NestedTree, leaf, split, Branches, no_branches, branch, size, size_of_all, numbers_from, preorder, preorder_of_all}
 use Rattle.split_search.specs.declared.verdict.Verdict.TheVariants.{Yes, No, Budget}
 use Rattle.split_search.specs.Ruled.{IsUndecided, IsRuledSplit, IsSplitOf, IsDone, AreDone, End, at_scenario, at_budget, Ends, splits, IsVerdict}
 use Rattle.split_search.specs.Way.{SplitState, node_of, branches_with, nodes_of_trees, numbers_of_trees, splits_of_trees, Frame, Held, IsLast, IsWay, IsVisiting, IsAtSplit, IsWhole, IsBetween, IsEnded}

@@ -5,8 +5,8 @@ use Rattle.calculus_table.specs.Algebra.{Algebra}
 use Rattle.calculus_table.specs.Calculus.{EachBase}
 use Rattle.network_words.specs.Network.{Network, IsNetwork}
 use Rattle.tract_classes.specs.Class.{HasBase}
-use Rattle.refutation.specs.declared.tree.Kind.TheVariants.{Later}
-use Rattle.refutation.specs.Tree.{TreeNode, sweep, leaf_node}
+use Rattle.split_trees.specs.declared.tree.Kind.TheVariants.{Later}
+use Rattle.split_trees.specs.Tree.{TreeNode, sweep, leaf_node}
 use Rattle.split_search.specs.declared.TheConstants.{MAX_BUDGET}
 use Rattle.split_search.specs.declared.searching.Search.{Search}
 use Rattle.split_search.specs.declared.searching.Stop.{Stop}

@@ -20,7 +20,7 @@ ghost use Rattle.std.specs.Prelude.{IfOk, OnOk, MatchOption, length, set};
 ghost use Rattle.calculus_table.specs.Calculus.{EachBase};
 ghost use Rattle.network_words.specs.Network.{IsNetwork};
 ghost use Rattle.tract_classes.specs.Class.{HasBase};
-ghost use Rattle.refutation.specs.Tree.{sweep, leaf_node};
+ghost use Rattle.split_trees.specs.Tree.{sweep, leaf_node};
 ghost use Rattle.split_search.specs.Ruled.{IsSeveral, IsUndecided, End, at_scenario, at_budget, IsVerdict};
 ghost use Rattle.split_search.specs.Way.{node_of};
 ghost use Rattle.split_search.specs.Searches.{IsTask, task_of, held_of, held_with, work_left};
@@ -37,8 +37,8 @@ use crate::verdict::Verdict;
 use calculus_table::{Compose, Memory, lawful};
 use closure_seq::ClosedPath;
 use network_words::Net;
-use refutation::{Kind, Node, Steps, Tree};
 use scenario::Scenario;
+use split_trees::{Kind, Node, Steps, Tree};
 use std::alloc::Global;
 use tract_classes::Class;
 

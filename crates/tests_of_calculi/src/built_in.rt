@@ -1,4 +1,5 @@
 //! The built-in calculi: their names, compositions and converses, as published.
+use crate::asserts::{assert_same, assert_same_in};
 use crate::calculi::{composed, turned};
 use calculus_builtin::{allen, point, rcc8};
 use calculus_table::{Calculus, Compose, Rel};
@@ -25,10 +26,11 @@ type Composition<'a> = (&'a str, &'a str, &'a [&'a str]);
 fn has_composition(rt: &impl Abort, c: &Calculus, row: Composition<'_>) {
     let (first, second, expected) = row;
     let (r, s) = (set_of(rt, c, &[first]), set_of(rt, c, &[second]));
-    assert_eq!(rt;
+    assert_same_in(
+        rt,
         composed(rt, c, r, s),
         set_of(rt, c, expected),
-        "{first};{second}"
+        (first, second),
     );
 }
 
@@ -42,15 +44,15 @@ fn has_compositions(rt: &impl Abort, c: &Calculus, rows: &[Composition<'_>]) {
 /// Asserts that the second base relation is the converse of the first.
 fn has_converse(rt: &impl Abort, c: &Calculus, base: &str, converse: &str) {
     let found = turned(rt, c, set_of(rt, c, &[base]));
-    assert_eq!(rt; found, set_of(rt, c, &[converse]), "the converse of {base}");
+    assert_same_in(rt, found, set_of(rt, c, &[converse]), base);
 }
 
 /// Asserts that these are the names of the base relations, and which of them is the identity.
 fn has_names(rt: &impl Abort, c: &Calculus, names: &[&str], identity: &[u8]) {
-    assert_eq!(rt; c.size() as usize, names.len());
-    assert_eq!(rt; c.find(identity), Some(c.identity()));
+    assert_same(rt, c.size() as usize, names.len());
+    assert_same(rt, c.find(identity), Some(c.identity()));
     for r in 0..c.size() {
-        assert_eq!(rt; names.get(r as usize).copied(), Some(c.name(r)));
+        assert_same(rt, names.get(r as usize).copied(), Some(c.name(r)));
     }
 }
 
@@ -74,7 +76,7 @@ fn rcc8_composes_as_published(rt: HostRuntime) -> Result<(), Fail> {
     let c = rcc8(rt.alloc())?;
     has_names(&rt, &c, &REGIONS, b"EQ");
     has_compositions(&rt, &c, &OF_REGIONS);
-    assert_eq!(rt; composed(&rt, &c, c.full(), c.full()), c.full());
+    assert_same(&rt, composed(&rt, &c, c.full(), c.full()), c.full());
     has_converse(&rt, &c, "NTPP", "NTPPi");
     has_converse(&rt, &c, "EC", "EC");
     Ok(())

@@ -2,6 +2,7 @@
 ghost use Rattle.std.specs.Prelude.{◌≡◌, ℕ, ◌<◌, ◌≤◌, length, slice_index, IsTrue, IfOk};
 ghost use Rattle.calculus_table.specs.Rel.{IsWithin};
 
+use crate::asserts::assert_same;
 use crate::calculi::{composed, turned};
 use calculus_builtin::{allen, rcc8};
 use calculus_table::{Calculus, Compose, Memory, Rel, TableFault};
@@ -31,8 +32,8 @@ impl Random {
 fn assert_alike(rt: &impl Abort, plain: &Calculus, fast: &Fast, a: u64, b: u64) {
     let a = Rel::of(a).meet(plain.full());
     let b = Rel::of(b).meet(plain.full());
-    assert_eq!(rt; composed(rt, fast, a, b), composed(rt, plain, a, b));
-    assert_eq!(rt; turned(rt, fast, a), turned(rt, plain, a));
+    assert_same(rt, composed(rt, fast, a, b), composed(rt, plain, a, b));
+    assert_same(rt, turned(rt, fast, a), turned(rt, plain, a));
 }
 
 /// Two sets, and their composition.
@@ -43,9 +44,9 @@ fn composes_sets_of_regions_by_the_table(rt: HostRuntime) -> Result<(), Fail> {
     let fast = Fast::new(rt.alloc(), &rcc8(rt.alloc())?)?;
     for (a, b, expected) in COMPOSITIONS {
         let found = composed(&rt, &fast, Rel::of(a), Rel::of(b));
-        assert_eq!(rt; found.word(), expected);
+        assert_same(&rt, found.word(), expected);
     }
-    assert_eq!(rt; (fast.size(), fast.identity()), (8, 7));
+    assert_same(&rt, (fast.size(), fast.identity()), (8, 7));
     Ok(())
 }
 
@@ -262,7 +263,7 @@ fn assert_lanes<const P: usize>(
     tables.fill::<Calculus, P>(plain);
     assert!(rt; a.within(plain.full()));
     tables.take::<Calculus, P>(plain, a);
-    assert_eq!(rt; tables.open_lanes::<P>(&planes, 0, 256 * P), wanted);
+    assert_same(rt, tables.open_lanes::<P>(&planes, 0, 256 * P), wanted);
     Ok(())
 }
 
@@ -303,8 +304,8 @@ fn random_rows(alloc: Global, random: &mut Random) -> Result<Vec<u64>, Fail> {
 
 #[test]
 fn joins_few_rows(rt: HostRuntime) {
-    assert_eq!(rt; or_rows(&[1, 2, 4, 8], 10), 10);
-    assert_eq!(rt; or_rows(&[], 0), 0);
+    assert_same(&rt, or_rows(&[1, 2, 4, 8], 10), 10);
+    assert_same(&rt, or_rows(&[], 0), 0);
 }
 
 #[test]
@@ -315,7 +316,7 @@ fn joins_rows(rt: HostRuntime) -> Result<(), Fail> {
         let mask = random.next();
         let some = rows.get(..length).ok_or("rows")?;
         assert!(rt; some.len() <= 64);
-        assert_eq!(rt; or_rows(some, mask), union_of(some, mask));
+        assert_same(&rt, or_rows(some, mask), union_of(some, mask));
     }
     Ok(())
 }
@@ -323,9 +324,9 @@ fn joins_rows(rt: HostRuntime) -> Result<(), Fail> {
 #[test]
 fn finds_the_first_difference_and_the_first_zero(rt: HostRuntime) {
     let found = first_difference(&[1, 2, 3, 4, 5], &[1, 2, 3, 4, 6]);
-    assert_eq!(rt; found, Some(4));
-    assert_eq!(rt; first_difference(&[], &[]), None);
-    assert_eq!(rt; first_zero(&[3, 0, 0]), Some(1));
+    assert_same(&rt, found, Some(4));
+    assert_same(&rt, first_difference(&[], &[]), None);
+    assert_same(&rt, first_zero(&[3, 0, 0]), Some(1));
 }
 
 const ONES: [u64; 67] = [1; 67];
@@ -334,8 +335,8 @@ const ONES: [u64; 67] = [1; 67];
 fn ones_have_no_difference_and_no_zero(rt: HostRuntime) -> Result<(), Fail> {
     for length in 0..=67usize {
         let ones = ONES.get(..length).ok_or("ones")?;
-        assert_eq!(rt; first_difference(ones, ones), None);
-        assert_eq!(rt; first_zero(ones), None);
+        assert_same(&rt, first_difference(ones, ones), None);
+        assert_same(&rt, first_zero(ones), None);
     }
     Ok(())
 }
@@ -347,8 +348,8 @@ fn finds_the_zero(rt: &impl Abort, length: usize, at: usize) {
     other[at] = 0;
     other[66] = 0;
     let (changed, plain) = (&other[..length], &ONES[..length]);
-    assert_eq!(rt; first_difference(changed, plain), Some(at));
-    assert_eq!(rt; first_zero(changed), Some(at));
+    assert_same(rt, first_difference(changed, plain), Some(at));
+    assert_same(rt, first_zero(changed), Some(at));
 }
 
 /// Asserts that a zero at any place among so many ones is found.

@@ -3,16 +3,12 @@
 #![tactic(auto)]
 
 #[cfg(test)]
+mod asserts;
+#[cfg(test)]
 mod built_in;
 #[cfg(test)]
 mod calculi;
 #[cfg(test)]
-mod classes;
-#[cfg(test)]
 mod compositions;
-#[cfg(test)]
-mod set_names;
-#[cfg(test)]
-mod table_files;
 #[cfg(test)]
 mod tables;

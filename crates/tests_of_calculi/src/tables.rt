@@ -2,6 +2,7 @@
 ghost use Rattle.std.specs.Prelude.{◌≡◌, IsTrue, IfOk, length};
 ghost use Rattle.calculus_table.specs.Checked.{has_shape};
 
+use crate::asserts::{assert_same, assert_same_in};
 use crate::calculi::{can_be_shared, composed, turned};
 use calculus_table::{Calculus, Compose, Rel, TableFault, place_of};
 use std::alloc::Global;
@@ -22,10 +23,10 @@ fn sets_are_the_bits_of_their_words(rt: HostRuntime) {
     for (a, b, meet, union, within, count) in WORDS {
         let (first, second) = (Rel::of(a), Rel::of(b));
         let both = (first.meet(second).word(), first.union(second).word());
-        assert_eq!(rt; both, (meet, union), "{a} and {b}");
-        assert_eq!(rt; first.within(second), within, "{a} within {b}");
+        assert_same_in(&rt, both, (meet, union), (a, b));
+        assert_same_in(&rt, first.within(second), within, (a, b));
         let own = (first.word(), first.count(), first.is_empty());
-        assert_eq!(rt; own, (a, count, a == 0), "{a}");
+        assert_same_in(&rt, own, (a, count, a == 0), a);
     }
     assert!(rt; Rel::EMPTY.is_empty());
 }
@@ -43,10 +44,10 @@ const MEMBERS: [(u64, u32, bool); 6] = [
 #[test]
 fn sets_have_their_members(rt: HostRuntime) {
     for (word, r, has) in MEMBERS {
-        assert_eq!(rt; Rel::of(word).has(r), has, "{r} in {word}");
+        assert_same_in(&rt, Rel::of(word).has(r), has, (r, word));
     }
     let singles = (Rel::single(0).word(), Rel::single(63).word());
-    assert_eq!(rt; singles, (1, 1 << 63));
+    assert_same(&rt, singles, (1, 1 << 63));
 }
 
 /// Ramsey's calculus of two colours: no triangle has one colour alone.
@@ -104,10 +105,10 @@ fn ramsey(alloc: Global) -> Result<Calculus, TableFault> {
 fn a_lawful_table_is_a_calculus(rt: HostRuntime) -> Result<(), Fail> {
     let c = ramsey(rt.alloc())?;
     let shape = (c.size(), c.identity(), c.full().word(), c.names().len());
-    assert_eq!(rt; shape, (3, 0, 0b111, 3));
-    assert_eq!(rt; (c.find(b"c"), c.find(b"")), (None, None));
+    assert_same(&rt, shape, (3, 0, 0b111, 3));
+    assert_same(&rt, (c.find(b"c"), c.find(b"")), (None, None));
     let two = c.names().get(..2).ok_or("two names")?;
-    assert_eq!(rt; place_of(two, b"b"), None);
+    assert_same(&rt, place_of(two, b"b"), None);
     Ok(())
 }
 
@@ -116,8 +117,8 @@ fn base_relations_have_their_names(rt: HostRuntime) -> Result<(), Fail> {
     let c = ramsey(rt.alloc())?;
     for (r, name) in [(0, "id"), (1, "a"), (2, "b")] {
         assert!(rt; r < c.size());
-        assert_eq!(rt; c.name(r), name);
-        assert_eq!(rt; c.find(name.as_bytes()), Some(r));
+        assert_same(&rt, c.name(r), name);
+        assert_same(&rt, c.find(name.as_bytes()), Some(r));
     }
     Ok(())
 }
@@ -138,12 +139,13 @@ fn sets_compose_by_the_table(rt: HostRuntime) -> Result<(), Fail> {
     let c = ramsey(rt.alloc())?;
     for (first, second, expected) in COMPOSITIONS {
         let (a, b) = (Rel::of(first), Rel::of(second));
-        assert_eq!(rt;
+        assert_same_in(
+            &rt,
             composed(&rt, &c, a, b).word(),
             expected,
-            "{first};{second}"
+            (first, second),
         );
-        assert_eq!(rt; turned(&rt, &c, a), a, "the converse of {first}");
+        assert_same_in(&rt, turned(&rt, &c, a), a, first);
     }
     Ok(())
 }
@@ -151,26 +153,31 @@ fn sets_compose_by_the_table(rt: HostRuntime) -> Result<(), Fail> {
 #[test]
 fn the_first_fault_is_named(rt: HostRuntime) {
     let twice = three_relations(rt.alloc(), ["id", "a", "id"], [0, 2, 2], RAMSEY);
-    assert_eq!(rt; twice.err(), Some(TableFault::NameTwice { at: 2 }));
+    assert_same(&rt, twice.err(), Some(TableFault::NameTwice { at: 2 }));
     let words = [1, 2, 6, 2, 5, 6, 4, 6, 3];
     let one_way = three_relations(rt.alloc(), ["id", "a", "b"], [0, 2, 2], words);
-    assert_eq!(rt; one_way.err(), Some(TableFault::NotInvolution { r: 1 }));
+    assert_same(&rt, one_way.err(), Some(TableFault::NotInvolution { r: 1 }));
 }
 
 #[test]
 fn the_first_law_that_is_broken_is_named(rt: HostRuntime) {
     let words = [1, 2, 6, 2, 5, 2, 4, 6, 3];
     let moved = three_relations(rt.alloc(), ["id", "a", "b"], [0, 1, 2], words);
-    assert_eq!(rt; moved.err(), Some(TableFault::IdentityLaw { r: 2 }));
+    assert_same(&rt, moved.err(), Some(TableFault::IdentityLaw { r: 2 }));
     let words = [1, 2, 4, 2, 5, 2, 4, 6, 1];
     let lopsided = three_relations(rt.alloc(), ["id", "a", "b"], [0, 1, 2], words);
-    assert_eq!(rt;
+    assert_same(
+        &rt,
         lopsided.err(),
-        Some(TableFault::ConverseLaw { r: 1, s: 2, t: 2 })
+        Some(TableFault::ConverseLaw { r: 1, s: 2, t: 2 }),
     );
     let words = [1, 2, 4, 2, 5, 6, 4, 6, 1];
     let torn = three_relations(rt.alloc(), ["id", "a", "b"], [0, 1, 2], words);
-    assert_eq!(rt; torn.err(), Some(TableFault::CycleLaw { r: 1, s: 2, t: 2 }));
+    assert_same(
+        &rt,
+        torn.err(),
+        Some(TableFault::CycleLaw { r: 1, s: 2, t: 2 }),
+    );
 }
 
 #[test]

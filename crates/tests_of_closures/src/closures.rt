@@ -4,6 +4,7 @@ ghost use Rattle.std.specs.Prelude.{◌<◌, IsTrue};
 ghost use Rattle.network_words.specs.Edge.{IsProperTriple};
 ghost use Rattle.closure_seq.specs.Copies.{IsSettledCopy};
 
+use crate::asserts::assert_same;
 use crate::nets::{
     NTPP, TPP, assert_words, chain, is_network, net_of, next, put, put_chain, random_net,
 };
@@ -45,7 +46,7 @@ const CLOSURES: [(u32, &[u64], &[u64]); 5] = [
 #[test]
 fn closes_small_networks_as_published(rt: HostRuntime) -> Result<(), Fail> {
     let c = rcc8(rt.alloc())?;
-    assert_eq!(rt; c.full().word(), ALL);
+    assert!(rt; c.full().word() == ALL);
     for (nodes, given, closed) in CLOSURES {
         let mut net = net_of(rt.alloc(), c.full(), nodes, given)?;
         assert_words(&rt, net.words(), given);
@@ -134,7 +135,7 @@ fn looks_at_few_edges_more_than_once(rt: HostRuntime) -> Result<(), Fail> {
     for (nodes, due) in LOOKS {
         let mut net = Net::new(rt.alloc(), nodes, c.full())?;
         put_chain(&mut net, 40, TPP | NTPP);
-        assert_eq!(rt; looks_at_an_eighth(&rt, rt.alloc(), &c, &net)?, due);
+        assert_same(&rt, looks_at_an_eighth(&rt, rt.alloc(), &c, &net)?, due);
     }
     Ok(())
 }
@@ -243,11 +244,11 @@ fn assert_set(rt: &impl Abort, path: &ClosedPath, net: &Net, edge: u32) {
 
 /// Fails unless the top of the path has the sets of `net`, and is told to be empty where one is.
 fn assert_top(rt: &impl Abort, path: &ClosedPath, net: &Net) {
-    assert_eq!(rt; path.nodes(), net.nodes());
+    assert_same(rt, path.nodes(), net.nodes());
     for edge in 0..net.edges() {
         assert_set(rt, path, net, edge);
     }
-    assert_eq!(rt; path.is_empty(), net.words().contains(&0));
+    assert_same(rt, path.is_empty(), net.words().contains(&0));
 }
 
 /// Fails unless the changes of the top, undone from the last to the first, lead from the sets of `net` to those of

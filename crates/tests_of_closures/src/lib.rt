@@ -3,9 +3,9 @@
 #![tactic(auto)]
 
 #[cfg(test)]
-mod closures;
+mod asserts;
 #[cfg(test)]
-mod edge_words;
+mod closures;
 #[cfg(test)]
 mod nets;
 #[cfg(test)]

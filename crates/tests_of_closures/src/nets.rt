@@ -2,6 +2,7 @@
 ghost use Rattle.std.specs.Prelude.{◌<◌, IsTrue};
 ghost use Rattle.network_words.specs.Network.{IsNetwork};
 
+use crate::asserts::assert_same;
 use calculus_table::{Compose, Rel};
 use network_words::{Net, NetFault};
 use std::alloc::Global;
@@ -23,7 +24,7 @@ pub(crate) fn is_network<C: Compose>(net: &Net, c: &C) -> bool
 
 /// Fails unless the words are these.
 pub(crate) fn assert_words(rt: &impl Abort, found: &[u64], expected: &[u64]) {
-    assert_eq!(rt; found, expected);
+    assert_same(rt, found, expected);
 }
 
 /// Sets the set of an edge to what the word has of the full set, if the edge is there.

@@ -3,6 +3,7 @@
 ghost use Rattle.std.specs.Prelude.{◌<◌, ◌≤◌};
 ghost use Rattle.network_words.specs.Network.{IsNetwork};
 
+use crate::asserts::{assert_same, assert_same_in};
 use crate::nets::{chain, is_network, put, random_net};
 use calculus_builtin::{allen, point, rcc8};
 use calculus_table::{Calculus, Compose, Memory};
@@ -73,14 +74,14 @@ fn assert_closed_by<R: Threads + Sync + Abort, C: Compose + Sync>(
 ) -> Result<(), Fail> {
     assert!(rt; is_network(net, c) && 0 < workers && workers <= 64);
     let found = closed_by(rt, alloc, c, net, workers, &NoGate)?;
-    assert_eq!(rt; found.words(), expected, "by {workers} workers");
+    assert_same_in(rt, found.words(), expected, ("closed by", workers));
     let shared = shared_by(rt, alloc, c, net, workers)?;
-    assert_eq!(rt; shared.words(), expected, "shared by {workers} workers");
+    assert_same_in(rt, shared.words(), expected, ("shared by", workers));
     Ok(())
 }
 
 /// Closes the network by each number of workers and on one thread, and fails unless all are the same.
-fn assert_same<R: Threads + Sync + Abort, C: Compose + Sync>(
+fn assert_closed_by_any<R: Threads + Sync + Abort, C: Compose + Sync>(
     rt: &R,
     alloc: Global,
     c: &C,
@@ -104,7 +105,7 @@ fn assert_closures_of<R: Threads + Sync + Abort, C: Compose + Sync>(
     for sparse in 1..6 {
         let start = u64::from(nodes) * 1000 + sparse;
         let net = random_net(alloc, c.full(), nodes, sparse, 0, start)?;
-        assert_same(rt, alloc, c, &net)?;
+        assert_closed_by_any(rt, alloc, c, &net)?;
     }
     Ok(())
 }
@@ -130,7 +131,7 @@ fn assert_chain<R: Threads + Sync + Abort, C: Compose + Sync>(
     link: u64,
 ) -> Result<(), Fail> {
     let net = chain(alloc, c.full(), nodes, link)?;
-    assert_same(rt, alloc, c, &net)
+    assert_closed_by_any(rt, alloc, c, &net)
 }
 
 /// Closes networks of each density whose sets have all of `base`.
@@ -144,7 +145,7 @@ fn assert_densities<R: Threads + Sync + Abort, C: Compose + Sync>(
     for sparse in [1, 2, 8] {
         let start = u64::from(nodes).wrapping_add(sparse);
         let net = random_net(alloc, c.full(), nodes, sparse, base, start)?;
-        assert_same(rt, alloc, c, &net)?;
+        assert_closed_by_any(rt, alloc, c, &net)?;
     }
     Ok(())
 }
@@ -162,7 +163,7 @@ fn assert_larger<R: Threads + Sync + Abort, C: Compose + Sync>(
         assert_chain(rt, alloc, c, nodes, link)?;
         assert_densities(rt, alloc, c, nodes, base)?;
         let net = random_net(alloc, c.full(), nodes, u64::from(nodes), 0, 7)?;
-        assert_same(rt, alloc, c, &net)?;
+        assert_closed_by_any(rt, alloc, c, &net)?;
     }
     Ok(())
 }
@@ -218,7 +219,7 @@ fn assert_closed_by_slices<C: Compose>(
     assert!(rt; is_network(net, c));
     let snap = seen_closed(alloc, c, net).ok_or("out of memory")?;
     let expected = closed(alloc, c, net)?;
-    assert_eq!(rt; snap.words(), expected.words(), "of {} nodes", net.nodes());
+    assert_same_in(rt, snap.words(), expected.words(), net.nodes());
     Ok(())
 }
 
@@ -251,7 +252,7 @@ fn one_empty_set_empties_all(rt: HostRuntime) -> Result<(), Fail> {
     for nodes in [2, 3, 9] {
         let mut net = Net::new(rt.alloc(), nodes, c.full())?;
         put(&mut net, 0, 0);
-        assert_same(&rt, rt.alloc(), &c, &net)?;
+        assert_closed_by_any(&rt, rt.alloc(), &c, &net)?;
         assert_emptied(&rt, rt.alloc(), &c, &net)?;
     }
     Ok(())
@@ -305,8 +306,8 @@ fn pieces_meet(rt: HostRuntime) -> Result<(), Fail> {
         missed: AtomicU64::new(0),
     };
     close_through(&rt, rt.alloc(), &c, 3, 2, &gate)?;
-    assert_eq!(rt; gate.passed.load(Ordering::SeqCst), 3);
-    assert_eq!(rt; gate.missed.load(Ordering::SeqCst), 0);
+    assert_same(&rt, gate.passed.load(Ordering::SeqCst), 3);
+    assert_same(&rt, gate.missed.load(Ordering::SeqCst), 0);
     Ok(())
 }
 
@@ -364,7 +365,7 @@ fn each_piece_begins_once_and_ends_once(rt: HostRuntime) -> Result<(), Fail> {
     let c = rcc8(rt.alloc())?;
     for (nodes, workers, pieces) in PIECES {
         let counts = counted(&rt, rt.alloc(), &c, nodes, workers)?;
-        assert_eq!(rt; counts, (pieces, pieces, 0));
+        assert_same(&rt, counts, (pieces, pieces, 0));
     }
     Ok(())
 }

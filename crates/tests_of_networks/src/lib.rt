@@ -3,9 +3,9 @@
 #![tactic(auto)]
 
 #[cfg(test)]
-mod nets;
+mod asserts;
 #[cfg(test)]
-mod network_files;
+mod nets;
 #[cfg(test)]
 mod networks;
 #[cfg(test)]

@@ -1,4 +1,5 @@
 //! Sets and facts that the tests start from.
+use crate::asserts::assert_same;
 use calculus_table::Rel;
 use network_words::Fact;
 use std::process::Abort;
@@ -20,5 +21,5 @@ pub(crate) fn fact(i: u32, j: u32, word: u64) -> Fact {
 
 /// Fails unless the words are these.
 pub(crate) fn assert_words(rt: &impl Abort, found: &[u64], expected: &[u64]) {
-    assert_eq!(rt; found, expected);
+    assert_same(rt, found, expected);
 }

@@ -4,6 +4,7 @@ ghost use Rattle.std.specs.Prelude.{◌≡◌, ◌<◌, All, IfOk, IsTrue};
 ghost use Rattle.calculus_table.specs.Rel.{IsWithin};
 ghost use Rattle.calculus_table.specs.Composition.{full_of};
 
+use crate::asserts::{assert_same, assert_same_in};
 use crate::nets::{AFTER, ANY, BEFORE, SAME, assert_words, fact};
 use calculus_builtin::point;
 use calculus_table::{Calculus, Compose, Rel};
@@ -17,9 +18,9 @@ const SIZES: [(u32, u32); 5] = [(1, 0), (2, 1), (4, 6), (128, 8128), (256, 32640
 
 /// Fails unless the network has so many edges, with a set for each, and the base relations of points.
 fn assert_edges(rt: &impl Abort, net: &Net, edges: u32) {
-    assert_eq!(rt; net.edges(), edges);
-    assert_eq!(rt; net.words().len(), edges as usize);
-    assert_eq!(rt; net.full(), Rel::of(ANY));
+    assert_same(rt, net.edges(), edges);
+    assert_same(rt, net.words().len(), edges as usize);
+    assert_same(rt, net.full(), Rel::of(ANY));
 }
 
 #[test]
@@ -34,7 +35,7 @@ fn networks_have_one_to_the_limit_of_nodes(rt: HostRuntime) -> Result<(), Fail> 
 fn other_numbers_of_nodes_are_refused(rt: HostRuntime) {
     for nodes in [0, 257, u32::MAX] {
         let refused = Net::new(rt.alloc(), nodes, Rel::of(ANY)).map(|net| net.nodes());
-        assert_eq!(rt; refused, Err(NetFault::Nodes));
+        assert_same(&rt, refused, Err(NetFault::Nodes));
     }
 }
 
@@ -60,7 +61,7 @@ fn edges_are_numbered_in_lexicographic_order(rt: HostRuntime) -> Result<(), Fail
     let net = four_nodes(rt.alloc())?;
     for (i, j, edge) in EDGES {
         assert!(rt; i < j && j < net.nodes());
-        assert_eq!(rt; net.edge(i, j), edge);
+        assert_same(&rt, net.edge(i, j), edge);
     }
     Ok(())
 }
@@ -77,7 +78,7 @@ const EITHER_ORDER: [(u32, u32, u32, u32); 4] = [
 fn an_edge_has_one_number_in_either_order(rt: HostRuntime) {
     for (nodes, i, j, edge) in EITHER_ORDER {
         assert!(rt; nodes <= 256 && i < nodes && j < nodes && i != j);
-        assert_eq!(rt; edge_between(nodes, i, j), edge, "{i} and {j} of {nodes}");
+        assert_same_in(&rt, edge_between(nodes, i, j), edge, (i, j, nodes));
     }
 }
 
@@ -151,7 +152,7 @@ const FAULTY: [(&[FactRow], NetFault); 2] = [
 fn the_first_faulty_fact_is_told_and_none_is_added(rt: HostRuntime) -> Result<(), Fail> {
     let mut net = narrowed(&rt, rt.alloc())?;
     for (rows, fault) in FAULTY {
-        assert_eq!(rt; add(&rt, rt.alloc(), &mut net, rows), Err(fault));
+        assert_same(&rt, add(&rt, rt.alloc(), &mut net, rows), Err(fault));
         assert_words(&rt, net.words(), &NARROWED);
     }
     Ok(())
@@ -181,7 +182,7 @@ fn named_nodes(rt: &impl Abort, alloc: Global) -> Result<Net, NetFault>
 {
     let mut net = four_nodes(alloc)?;
     let refused = name(rt, alloc, &mut net, &["a", "b", "a", "b"]);
-    assert_eq!(rt; refused, Err(NetFault::NameTwice { at: 2 }));
+    assert_same(rt, refused, Err(NetFault::NameTwice { at: 2 }));
     name(rt, alloc, &mut net, &["a", "b", "c", "d"])?;
     Ok(net)
 }
@@ -189,9 +190,9 @@ fn named_nodes(rt: &impl Abort, alloc: Global) -> Result<Net, NetFault>
 #[test]
 fn nodes_have_names(rt: HostRuntime) -> Result<(), Fail> {
     let nameless = four_nodes(rt.alloc())?;
-    assert_eq!(rt; nameless.name(0), None);
+    assert_same(&rt, nameless.name(0), None);
     let net = named_nodes(&rt, rt.alloc())?;
-    assert_eq!(rt; net.name(3), Some("d"));
+    assert_same(&rt, net.name(3), Some("d"));
     Ok(())
 }
 
@@ -202,9 +203,9 @@ const FOUND: [(&[u8], Option<u32>); 3] = [(b"c", Some(2)), (b"e", None), (b"\xFF
 fn nodes_are_found_by_their_names(rt: HostRuntime) -> Result<(), Fail> {
     let net = named_nodes(&rt, rt.alloc())?;
     for (name, node) in FOUND {
-        assert_eq!(rt; net.find(name), node);
+        assert_same(&rt, net.find(name), node);
     }
-    assert_eq!(rt; net.copy()?.find(b"b"), Some(1));
+    assert_same(&rt, net.copy()?.find(b"b"), Some(1));
     Ok(())
 }
 

@@ -3,6 +3,7 @@
 ghost use Rattle.std.specs.Prelude.{◌≡◌, ◌<◌, IfOk};
 ghost use Rattle.calculus_table.specs.Composition.{full_of};
 
+use crate::asserts::{assert_same, assert_same_in};
 use crate::nets::{AFTER, ANY, BEFORE, SAME, assert_words, fact};
 use calculus_builtin::point;
 use calculus_table::{Calculus, Compose, Memory};
@@ -160,7 +161,7 @@ fn an_actor_narrows_further_after_it_has_read(rt: HostRuntime) -> Result<(), Fai
     assert_words(&rt, core.words(), &[BEFORE, BEFORE, SAME]);
     let (_, facts, seen) = actor_of(&core, 1).ok_or("actor 1 is live")?;
     assert_words(&rt, seen, &[BEFORE, BEFORE, SAME]);
-    assert_eq!(rt; facts.len(), 0);
+    assert_same(&rt, facts.len(), 0);
     Ok(())
 }
 
@@ -198,7 +199,7 @@ fn with_a_spent_actor(rt: &impl Abort, alloc: Global) -> Result<Core, Memory> {
 
 /// Fails unless just this is said of the event.
 fn assert_may(rt: &impl Abort, core: &Core, name: &str, event: &Event, allowed: bool) {
-    assert_eq!(rt; core.may(event), allowed, "{name}");
+    assert_same_in(rt, core.may(event), allowed, name);
 }
 
 /// Name, actor, nodes, set, whether the actor may state this fact.
@@ -306,6 +307,6 @@ fn one_step_makes_an_event(rt: HostRuntime) -> Result<(), Fail> {
     let core = stepped(&rt, rt.alloc(), &asserted(0, 0, 2, SAME))?;
     assert_words(&rt, core.words(), &[ANY, SAME, ANY]);
     assert_words(&rt, core.opening(), &[ANY, ANY, ANY]);
-    assert_eq!(rt; core.opening_weight(), 1);
+    assert_same(&rt, core.opening_weight(), 1);
     Ok(())
 }

@@ -3,9 +3,9 @@
 #![tactic(auto)]
 
 #[cfg(test)]
-mod matrices;
+mod asserts;
 #[cfg(test)]
-mod polygon_files;
+mod matrices;
 #[cfg(test)]
 mod ring_texts;
 #[cfg(test)]

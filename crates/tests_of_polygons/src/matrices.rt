@@ -1,4 +1,5 @@
 //! Matrices of rings, as exact fractions say them, patterns of matrices, and the named predicates.
+use crate::asserts::{assert_same, assert_same_in};
 use crate::ring_texts::{can_be_shared, ring};
 use de9im::{Dim, Matrix, Named, Pattern, matches, matrix, predicate};
 use std::process::Abort;
@@ -139,17 +140,17 @@ const CONVERSE: [usize; 9] = [0, 3, 6, 1, 4, 7, 2, 5, 8];
 
 /// Asserts that a matrix is that of the other way round.
 fn is_converse(rt: &impl Abort, converse: &str, wanted: &str) {
-    assert_eq!(rt; (converse.len(), wanted.len()), (9, 9));
+    assert_same(rt, (converse.len(), wanted.len()), (9, 9));
     for (k, place) in CONVERSE.iter().enumerate() {
         let entry = wanted.as_bytes().get(*place);
-        assert_eq!(rt; converse.as_bytes().get(k), entry, "{converse} of {wanted}");
+        assert_same_in(rt, converse.as_bytes().get(k), entry, (converse, wanted));
     }
 }
 
 /// Asserts that two rings have this matrix, and the other way round its converse.
 fn has_matrix(rt: &(impl Abort + AllocGlobal), a: &str, b: &str, wanted: &str) -> Result<(), Fail> {
     let found = relation(rt, a, b)?;
-    assert_eq!(rt; found.as_str(), wanted, "{a} | {b}");
+    assert_same_in(rt, found.as_str(), wanted, (a, b));
     is_converse(rt, &relation(rt, b, a)?, wanted);
     Ok(())
 }
@@ -158,7 +159,7 @@ fn has_matrix(rt: &(impl Abort + AllocGlobal), a: &str, b: &str, wanted: &str) -
 fn compare(rt: &(impl Abort + AllocGlobal), rows: &str) -> Result<(), Fail> {
     for row in rows.lines() {
         let parts: Vec<&str> = row.split(" | ").collect(rt.alloc())?;
-        assert_eq!(rt; parts.len(), 4, "{row}");
+        assert!(rt; parts.len() == 4, "{row}");
         has_matrix(rt, parts[1], parts[2], parts[3])?;
     }
     Ok(())
@@ -190,7 +191,7 @@ fn dimension(symbol: u8) -> Dim {
 fn read(rt: &impl Abort, text: &str) -> Matrix {
     let bytes = text.as_bytes();
     let mut dims = [Dim::F; 9];
-    assert_eq!(rt; bytes.len(), 9);
+    assert!(rt; bytes.len() == 9);
     for k in 0..9 {
         dims[k] = dimension(bytes[k]);
     }
@@ -228,7 +229,7 @@ fn patterns_are_nine_of_six_characters(rt: HostRuntime) {
             Ok(_) => None,
             Err(bad) => Some(bad.place),
         };
-        assert_eq!(rt; place, wanted, "{text}");
+        assert_same_in(&rt, place, wanted, text);
     }
 }
 
@@ -251,7 +252,7 @@ fn patterns_admit_matrices(rt: HostRuntime) {
             .ok()
             .expect(&rt, "a pattern");
         let found = matches(&read(&rt, matrix), &p);
-        assert_eq!(rt; found, wanted, "{matrix} {pattern}");
+        assert_same_in(&rt, found, wanted, (matrix, pattern));
     }
 }
 
@@ -282,7 +283,7 @@ const NAMES: [Named; 6] = [
 fn has_predicates(rt: &impl Abort, text: &str, wanted: &[bool]) {
     let m = read(rt, text);
     for (named, holds) in NAMES.iter().zip(wanted) {
-        assert_eq!(rt; predicate(&m, *named), *holds, "{text} {named:?}");
+        assert_same_in(rt, predicate(&m, *named), *holds, (text, named));
     }
 }
 

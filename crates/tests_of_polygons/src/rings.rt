@@ -2,6 +2,7 @@
 ghost use Rattle.std.specs.Prelude.{◌<◌};
 ghost use Rattle.poly_exact.specs.Small.{IsSmall};
 
+use crate::asserts::{assert_same, assert_same_in};
 use crate::ring_texts::{can_be_shared, points, ring};
 use poly_exact::{HalfPoint, Location, Outline, Point, Ring, RingFault, is_small, locate, orient};
 use std::alloc::{AllocError, Global};
@@ -25,13 +26,9 @@ const RINGS: [(&str, &str); 8] = [
 
 /// Asserts that these are the vertices of a ring.
 fn has_vertices(rt: &impl Abort, ring: &Ring, wanted: &[Point]) {
-    assert_eq!(rt; ring.len() as usize, wanted.len());
+    assert_same(rt, ring.len() as usize, wanted.len());
     for k in 0..ring.len() {
-        assert_eq!(rt;
-            wanted.get(k as usize).copied(),
-            Some(ring.vertex(k)),
-            "vertex {k}"
-        );
+        assert_same_in(rt, wanted.get(k as usize).copied(), Some(ring.vertex(k)), k);
     }
 }
 
@@ -68,7 +65,7 @@ fn other_points_are_refused(rt: HostRuntime) -> Result<(), Fail> {
         let given = points(rt.alloc(), text)?;
         assert!(rt; given.len() < 100);
         let found = Ring::new(rt.alloc(), &given).err();
-        assert_eq!(rt; found, Some(fault), "{text}");
+        assert_same_in(&rt, found, Some(fault), text);
     }
     Ok(())
 }
@@ -94,9 +91,9 @@ fn parabola(alloc: Global, count: u32) -> Result<Result<Ring, RingFault>, AllocE
 #[test]
 fn a_ring_has_256_vertices_at_most(rt: HostRuntime) -> Result<(), Fail> {
     let most = parabola(rt.alloc(), 256)?;
-    assert_eq!(rt; most.ok().expect(&rt, "a ring").len(), 256);
+    assert_same(&rt, most.ok().expect(&rt, "a ring").len(), 256);
     let more = parabola(rt.alloc(), 257)?;
-    assert_eq!(rt; more.err(), Some(RingFault::ManyVertices));
+    assert_same(&rt, more.err(), Some(RingFault::ManyVertices));
     Ok(())
 }
 
@@ -134,7 +131,7 @@ const TURNS: [((i64, i64), (i64, i64), (i64, i64), i32); 6] = [
 fn turns_have_signs(rt: HostRuntime) {
     for (a, b, c, turn) in TURNS {
         let found = orient(point(&rt, a), point(&rt, b), point(&rt, c));
-        assert_eq!(rt; found, turn, "{a:?} {b:?} {c:?}");
+        assert_same_in(&rt, found, turn, (a, b, c));
     }
 }
 
@@ -164,7 +161,7 @@ fn location(rt: &impl Abort, ring: &Ring, at: (i64, i64)) -> Location {
 fn points_lie_in_on_or_out_of_a_ring(rt: HostRuntime) -> Result<(), Fail> {
     let horseshoe = ring(&rt, rt.alloc(), "0 0 12 0 12 12 8 12 8 4 4 4 4 12 0 12")?;
     for (at, wanted) in PLACES {
-        assert_eq!(rt; location(&rt, &horseshoe, at), wanted, "{at:?}");
+        assert_same_in(&rt, location(&rt, &horseshoe, at), wanted, at);
     }
     Ok(())
 }

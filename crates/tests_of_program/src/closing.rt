@@ -1,4 +1,5 @@
 //! Closing a network, the calculus that it is closed by, and the sources that are refused.
+use crate::asserts::assert_same;
 use crate::runs::{CLOSE, RAMSEY, expect_code, expect_over, expect_run, ran, refused};
 use calculus_builtin::rcc8;
 use calculus_load::text;
@@ -95,16 +96,16 @@ fn ran_on_lines<R: Threads + Sync + AllocGlobal>(
 #[test]
 fn sources_up_to_the_limit_are_read(rt: HostRuntime) -> Result<(), Fail> {
     let (status, text) = ran_on_lines(&rt, 16_777_216)?;
-    assert_eq!(rt; status, refused(20, 16_777_216));
-    assert_eq!(rt; text.as_slice(), b"refused 20 16777216\n".as_slice());
+    assert_same(&rt, status, refused(20, 16_777_216));
+    assert_same(&rt, text.as_slice(), b"refused 20 16777216\n".as_slice());
     Ok(())
 }
 
 #[test]
 fn sources_past_the_limit_are_too_long(rt: HostRuntime) -> Result<(), Fail> {
     let (status, text) = ran_on_lines(&rt, 16_777_217)?;
-    assert_eq!(rt; status, Status::TooLong);
-    assert_eq!(rt; text.len(), 0);
+    assert_same(&rt, status, Status::TooLong);
+    assert_same(&rt, text.len(), 0);
     Ok(())
 }
 

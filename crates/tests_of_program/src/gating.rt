@@ -1,4 +1,5 @@
 //! What runs at one time with what, as gates see it and hold it.
+use crate::asserts::{assert_same, assert_same_in};
 use crate::runs::{CLOSE, ran, refused};
 use qsr_outside::Gate;
 use qsr_top::Status;
@@ -40,8 +41,8 @@ fn expect_no_pass<R: Threads + Sync + Abort + AllocGlobal>(
         passes: AtomicU64::new(0),
     };
     let (ended, _) = ran(rt, words, source, &[], &[], &gate)?;
-    assert_eq!(rt; ended, status);
-    assert_eq!(rt; gate.passes.load(Ordering::SeqCst), 0);
+    assert_same(rt, ended, status);
+    assert_same(rt, gate.passes.load(Ordering::SeqCst), 0);
     Ok(())
 }
 
@@ -60,8 +61,8 @@ fn expect_done<R: Threads + Sync + Abort + AllocGlobal, G: Gate + Sync>(
     text: &str,
 ) -> Result<(), Fail> {
     let (status, written) = ran(rt, words, source, &[], &[], gate)?;
-    assert_eq!(rt; status, Status::Done, "{words:?}");
-    assert_eq!(rt; written.as_slice(), text.as_bytes(), "{words:?}");
+    assert_same_in(rt, status, Status::Done, words);
+    assert_same_in(rt, written.as_slice(), text.as_bytes(), words);
     Ok(())
 }
 
@@ -98,8 +99,8 @@ fn two_workers_begin_before_either_ends(rt: HostRuntime) -> Result<(), Fail> {
     let source = b"nodes 3\n0 1 ( TPP )\n1 2 ( NTPP )\n.\n";
     let answer = "nodes 3\n0 1 ( TPP )\n0 2 ( NTPP )\n1 2 ( NTPP )\n.\n";
     expect_done(&rt, &words, source, &gate, answer)?;
-    assert_eq!(rt; gate.passed.load(Ordering::SeqCst), 3);
-    assert_eq!(rt; gate.missed.load(Ordering::SeqCst), 0);
+    assert_same(&rt, gate.passed.load(Ordering::SeqCst), 3);
+    assert_same(&rt, gate.missed.load(Ordering::SeqCst), 0);
     Ok(())
 }
 
@@ -144,11 +145,7 @@ fn a_peek_comes_before_or_after_an_assertion(rt: HostRuntime) -> Result<(), Fail
             missed: AtomicU64::new(0),
         };
         expect_done(&rt, &["serve", "rcc8", "2"], script, &gate, text)?;
-        assert_eq!(rt;
-            gate.missed.load(Ordering::SeqCst),
-            0,
-            "{held} waits for {until}"
-        );
+        assert_same_in(&rt, gate.missed.load(Ordering::SeqCst), 0, (held, until));
     }
     Ok(())
 }

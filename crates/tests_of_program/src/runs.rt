@@ -1,6 +1,7 @@
 //! The reasoner over forms in memory: runs whose text and status are compared with what is expected.
 ghost use Rattle.std.specs.Prelude.{◌≤◌};
 
+use crate::asserts::assert_same_in;
 use qsr_outside::{BytesSink, BytesSource, Gate, MapShelf, NoGate};
 use qsr_top::{Place, Status, run};
 use std::alloc::Global;
@@ -121,12 +122,8 @@ pub(crate) fn expect_run<R: Threads + Sync + Abort + AllocGlobal>(
     status: Status,
 ) -> Result<(), Fail> {
     let (ended, written) = ran(rt, words, source, &[], &[], &NoGate)?;
-    assert_eq!(rt; ended, status, "{words:?} on {source:?}");
-    assert_eq!(rt;
-        written.as_slice(),
-        text.as_bytes(),
-        "{words:?} on {source:?}"
-    );
+    assert_same_in(rt, ended, status, (words, source));
+    assert_same_in(rt, written.as_slice(), text.as_bytes(), (words, source));
     Ok(())
 }
 
@@ -140,8 +137,8 @@ pub(crate) fn expect_over<R: Threads + Sync + Abort + AllocGlobal>(
     status: Status,
 ) -> Result<(), Fail> {
     let (ended, written) = ran_over(rt, words, documents, source.as_bytes())?;
-    assert_eq!(rt; ended, status, "{words:?}");
-    assert_eq!(rt; written.as_slice(), text.as_bytes(), "{words:?}");
+    assert_same_in(rt, ended, status, words);
+    assert_same_in(rt, written.as_slice(), text.as_bytes(), words);
     Ok(())
 }
 
@@ -155,7 +152,7 @@ pub(crate) fn expect_code<R: Threads + Sync + Abort + AllocGlobal>(
     code: u8,
 ) -> Result<(), Fail> {
     let (status, written) = ran_over(rt, words, documents, source.as_bytes())?;
-    assert_eq!(rt; status.code(), code, "{words:?}");
-    assert_eq!(rt; written.as_slice(), text.as_bytes(), "{words:?}");
+    assert_same_in(rt, status.code(), code, words);
+    assert_same_in(rt, written.as_slice(), text.as_bytes(), words);
     Ok(())
 }

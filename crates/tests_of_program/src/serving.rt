@@ -1,4 +1,5 @@
 //! Scripts of sessions, and how far they are answered where a stream fails.
+use crate::asserts::assert_same_in;
 use crate::runs::{ended, expect_run, sink_of};
 use qsr_outside::{BytesSource, MapShelf, NoGate};
 use qsr_top::Status;
@@ -74,13 +75,9 @@ fn served<R: Threads + Sync + AllocGlobal>(
 fn a_script_is_answered_up_to_a_fault(rt: HostRuntime) -> Result<(), Fail> {
     for (reads, writes, status, text, given) in FAULTS {
         let (ended, written, taken) = served(&rt, reads, writes)?;
-        assert_eq!(rt; ended, status, "reads {reads:?}, writes {writes:?}");
-        assert_eq!(rt;
-            written.as_slice(),
-            text.as_bytes(),
-            "reads {reads:?}, writes {writes:?}"
-        );
-        assert_eq!(rt; taken, given, "reads {reads:?}, writes {writes:?}");
+        assert_same_in(&rt, ended, status, (reads, writes));
+        assert_same_in(&rt, written.as_slice(), text.as_bytes(), (reads, writes));
+        assert_same_in(&rt, taken, given, (reads, writes));
     }
     Ok(())
 }

@@ -1,4 +1,5 @@
 //! Words that are no command, streams that fail, and exit codes.
+use crate::asserts::{assert_same, assert_same_in};
 use crate::runs::{CLOSE, ran};
 use qsr_outside::NoGate;
 use qsr_top::{Place, Status};
@@ -16,15 +17,12 @@ fn expect_by_calls<R: Threads + Sync + Abort + AllocGlobal>(
     text: &str,
 ) -> Result<(), Fail> {
     let (ended, written) = ran(rt, words, b"nodes 1\n.\n", reads, writes, &NoGate)?;
-    assert_eq!(rt;
-        ended,
-        status,
-        "{words:?}, reads {reads:?}, writes {writes:?}"
-    );
-    assert_eq!(rt;
+    assert_same_in(rt, ended, status, (words, reads, writes));
+    assert_same_in(
+        rt,
         written.as_slice(),
         text.as_bytes(),
-        "{words:?}, reads {reads:?}, writes {writes:?}"
+        (words, reads, writes),
     );
     Ok(())
 }
@@ -99,6 +97,6 @@ const STATUSES: [Status; 10] = [
 #[test]
 fn codes_are_those_of_the_statuses(rt: HostRuntime) {
     for (code, status) in STATUSES.iter().enumerate() {
-        assert_eq!(rt; usize::from(status.code()), code);
+        assert_same(&rt, usize::from(status.code()), code);
     }
 }

@@ -3,6 +3,6 @@
 #![tactic(auto)]
 
 #[cfg(test)]
-mod scripts;
+mod asserts;
 #[cfg(test)]
-mod versions;
+mod scripts;

@@ -1,6 +1,7 @@
 //! Scripts over nodes of RCC-8: how they are read, and what their batches answer.
 ghost use Rattle.std.specs.Prelude.{◌≡◌, ◌<◌, ◌≤◌, IfOk};
 
+use crate::asserts::{assert_same, assert_same_in};
 use calculus_builtin::rcc8;
 use calculus_table::{Calculus, Memory, Rel};
 use network_words::Fact;
@@ -86,7 +87,7 @@ fn a_fact_is_read(rt: HostRuntime) -> Result<(), Fail> {
     let rel = Rel::of(8);
     let found = read_alone(rt.alloc(), b"s assert 1 0 ( TPP )", &c)?;
     let expected = What::Assert(Fact { i: 1, j: 0, rel });
-    assert_eq!(rt; found, Some(line(2, 0, expected)));
+    assert_same(&rt, found, Some(line(2, 0, expected)));
     Ok(())
 }
 
@@ -118,7 +119,7 @@ fn each_command_is_read(rt: HostRuntime) -> Result<(), Fail> {
     let c = rcc8(rt.alloc())?;
     for (text, expected) in COMMANDS {
         let found = read_alone(rt.alloc(), text, &c)?;
-        assert_eq!(rt; found, Some(line(2, 0, expected)), "{text:?}");
+        assert_same_in(&rt, found, Some(line(2, 0, expected)), text);
     }
     Ok(())
 }
@@ -142,7 +143,7 @@ fn other_lines_are_refused(rt: HostRuntime) -> Result<(), Fail> {
     let c = rcc8(rt.alloc())?;
     for (text, number) in REFUSALS {
         let found = read_alone(rt.alloc(), text, &c)?;
-        assert_eq!(rt; found, Some(line(2, 0, refused(number))), "{text:?}");
+        assert_same_in(&rt, found, Some(line(2, 0, refused(number))), text);
     }
     Ok(())
 }
@@ -163,7 +164,7 @@ fn batches_end_with_commits(rt: HostRuntime) -> Result<(), Fail> {
     let c = rcc8(rt.alloc())?;
     for (script, count, lines, sessions) in SCRIPTS {
         let batches = batches(rt.alloc(), script, &c)?;
-        assert_eq!(rt; sizes(&batches), (count, lines, sessions), "{script:?}");
+        assert_same_in(&rt, sizes(&batches), (count, lines, sessions), script);
     }
     Ok(())
 }
@@ -182,9 +183,13 @@ fn long_batches_are_cut_off(rt: HostRuntime) -> Result<(), Fail> {
     let c = rcc8(rt.alloc())?;
     let script = repeated(rt.alloc(), b"s peek 0 1\n", 4098)?;
     let batches = batches(rt.alloc(), &script, &c)?;
-    assert_eq!(rt; sizes(&batches), (1, 4097, 1));
-    assert_eq!(rt; line_at(&batches, 4095), Some(line(4096, 0, PEEK)));
-    assert_eq!(rt; line_at(&batches, 4096), Some(line(4097, 0, refused(50))));
+    assert_same(&rt, sizes(&batches), (1, 4097, 1));
+    assert_same(&rt, line_at(&batches, 4095), Some(line(4096, 0, PEEK)));
+    assert_same(
+        &rt,
+        line_at(&batches, 4096),
+        Some(line(4097, 0, refused(50))),
+    );
     Ok(())
 }
 
@@ -202,9 +207,9 @@ fn a_sixty_fifth_session_is_refused(rt: HostRuntime) -> Result<(), Fail> {
     let c = rcc8(rt.alloc())?;
     let script = peeks_of_sessions(rt.alloc())?;
     let batches = batches(rt.alloc(), script.as_bytes(), &c)?;
-    assert_eq!(rt; sizes(&batches), (1, 65, 64));
-    assert_eq!(rt; line_at(&batches, 63), Some(line(64, 63, PEEK)));
-    assert_eq!(rt; line_at(&batches, 64), Some(line(65, 0, refused(49))));
+    assert_same(&rt, sizes(&batches), (1, 65, 64));
+    assert_same(&rt, line_at(&batches, 63), Some(line(64, 63, PEEK)));
+    assert_same(&rt, line_at(&batches, 64), Some(line(65, 0, refused(49))));
     Ok(())
 }
 
@@ -271,8 +276,8 @@ fn a_reader_stops_after_the_batches_that_came_before(rt: HostRuntime) -> Result<
     for (script, piece, failing, limit, count, stop, given) in STOPS {
         let (first, again) = outcomes(rt.alloc(), script, piece, failing, limit, &c)?;
         let faults = u64::from(stop == FAULT);
-        assert_eq!(rt; first, (count, stop, given, faults), "{script:?}");
-        assert_eq!(rt; again, (0, stop, given, faults), "{script:?}");
+        assert_same_in(&rt, first, (count, stop, given, faults), script);
+        assert_same_in(&rt, again, (0, stop, given, faults), script);
     }
     Ok(())
 }
@@ -295,7 +300,7 @@ fn less_than_a_piece_is_taken_after_a_commit(rt: HostRuntime) -> Result<(), Fail
     let c = rcc8(rt.alloc())?;
     // lines before the `commit`, how many bytes were given when it is answered
     for (before, given) in [(0, 4096), (4089, 4096), (4090, 8192)] {
-        assert_eq!(rt; given_to_commit(rt.alloc(), before, &c)?, Some(given));
+        assert_same(&rt, given_to_commit(rt.alloc(), before, &c)?, Some(given));
     }
     Ok(())
 }
@@ -438,7 +443,7 @@ fn a_batch_makes_a_version_and_is_answered(rt: HostRuntime) -> Result<(), Fail> 
     let c = rcc8(rt.alloc())?;
     for (nodes, script, expected) in REPLIES {
         let replies = first_replies(&rt, rt.alloc(), nodes, script, &c)?;
-        assert_eq!(rt; replies.as_str(), expected);
+        assert_same(&rt, replies.as_str(), expected);
     }
     Ok(())
 }
@@ -448,7 +453,7 @@ fn each_commit_makes_a_version(rt: HostRuntime) -> Result<(), Fail> {
     let c = rcc8(rt.alloc())?;
     let commits = repeated(rt.alloc(), b"commit\n", 16)?;
     let replies = first_replies(&rt, rt.alloc(), 2, &commits, &c)?;
-    assert_eq!(rt; replies.len(), 9 * 17 + 7 * 18);
+    assert_same(&rt, replies.len(), 9 * 17 + 7 * 18);
     let newest = "version 15 closed\nversion 16 closed\n";
     assert!(rt; replies.as_str().ends_with(newest));
     Ok(())
@@ -463,7 +468,7 @@ fn the_newest_sixteen_versions_are_asked(rt: HostRuntime) -> Result<(), Fail> {
     let expected = "line 1 refused 46\ns ask 2 ( DC EC PO TPP NTPP TPPi NTPPi EQ )\n\
         line 3 refused 47\nline 4 refused 48\nversion 17 closed\n";
     let replies = all_replies(&rt, rt.alloc(), &mut store, script, &c, &NoGate)?;
-    assert_eq!(rt; replies.as_str(), expected);
+    assert_same(&rt, replies.as_str(), expected);
     Ok(())
 }
 
@@ -520,7 +525,7 @@ fn held_replies<R: Threads + Sync + Abort>(
 {
     let gate = gate_holding(held, until);
     let replies = replies_by(rt, alloc, store, script, c, workers, &gate)?;
-    assert_eq!(rt; gate.missed.load(Ordering::SeqCst), 0);
+    assert_same(rt, gate.missed.load(Ordering::SeqCst), 0);
     Ok(replies)
 }
 
@@ -541,7 +546,7 @@ fn peek_order(rt: HostRuntime) -> Result<(), Fail> {
     for (held, until, expected) in PEEK_ORDERS {
         let mut store = Store::new(rt.alloc(), 2, &c)?;
         let replies = held_replies(&rt, rt.alloc(), &mut store, script, &c, 1, held, until)?;
-        assert_eq!(rt; replies.as_str(), expected, "{held} waits for {until}");
+        assert_same_in(&rt, replies.as_str(), expected, (held, until));
     }
     Ok(())
 }
@@ -555,7 +560,7 @@ fn a_peek_after_the_worker_shows_its_work(rt: HostRuntime) -> Result<(), Fail> {
     let script = b"s withdraw 3\ns peek 0 2\n";
     let replies = held_replies(&rt, rt.alloc(), &mut store, script, &c, 1, 2000, 1000)?;
     let expected = "s withdrawn 3\ns peek ( NTPP )\nversion 2 closed\n";
-    assert_eq!(rt; replies.as_str(), expected);
+    assert_same(&rt, replies.as_str(), expected);
     Ok(())
 }
 
@@ -582,7 +587,7 @@ fn a_held_point_holds_no_other(rt: HostRuntime) -> Result<(), Fail> {
     for (script, held, until, expected) in HELD_POINTS {
         let mut store = Store::new(rt.alloc(), 3, &c)?;
         let replies = held_replies(&rt, rt.alloc(), &mut store, script, &c, 3, held, until)?;
-        assert_eq!(rt; replies.as_str(), expected, "{held} waits for {until}");
+        assert_same_in(&rt, replies.as_str(), expected, (held, until));
     }
     Ok(())
 }

@@ -1,4 +1,5 @@
 //! Rows of texts, and the lines that a reader goes over.
+use crate::asserts::{assert_same, assert_same_in};
 use line_files::{FileLines, TextEnd, owned_names};
 use std::process::Abort;
 use std::test::Fail;
@@ -17,7 +18,7 @@ const TEXTS: [(&[u8], &[u32], TextEnd); 6] = [
 fn has_lines(rt: &impl Abort, lines: &mut FileLines<'_>, numbers: &[u32]) -> Result<(), Fail> {
     for number in numbers {
         let line = lines.next_line().ok_or("a line")?;
-        assert_eq!(rt; (line.number, line.tokens.is_empty()), (*number, false));
+        assert_same(rt, (line.number, line.tokens.is_empty()), (*number, false));
     }
     Ok(())
 }
@@ -28,7 +29,7 @@ fn lines_with_tokens_are_read_up_to_the_end_or_a_bad_line(rt: HostRuntime) -> Re
         let mut lines = FileLines::new(text);
         has_lines(&rt, &mut lines, numbers)?;
         assert!(rt; lines.next_line().is_none(), "{text:?}");
-        assert_eq!(rt; lines.end(), end, "{text:?}");
+        assert_same_in(&rt, lines.end(), end, text);
     }
     Ok(())
 }
@@ -41,7 +42,7 @@ fn has_names_and_end(
     assert!(rt; lines.next_line_of(b"nodes").is_none());
     let mut line = lines.next_line_of(b"names").ok_or("a line")?;
     let count = line.tokens.names(rt.alloc(), 1)?.len();
-    assert_eq!(rt; (line.number, count), (2, 1));
+    assert_same(rt, (line.number, count), (2, 1));
     let end = lines.next_line().ok_or("a line")?;
     assert!(rt; end.tokens.is_end_line());
     Ok(())
@@ -51,16 +52,16 @@ fn has_names_and_end(
 fn a_line_is_read_by_its_first_word(rt: HostRuntime) -> Result<(), Fail> {
     let mut lines = FileLines::new(b"\nnames ( a )\n.\n\nb");
     has_names_and_end(&rt, &mut lines)?;
-    assert_eq!(rt; lines.extra_line(), Some(5));
-    assert_eq!(rt; lines.extra_line(), None);
-    assert_eq!(rt; FileLines::new(b"\n\x80").extra_line(), Some(2));
+    assert_same(&rt, lines.extra_line(), Some(5));
+    assert_same(&rt, lines.extra_line(), None);
+    assert_same(&rt, FileLines::new(b"\n\x80").extra_line(), Some(2));
     Ok(())
 }
 
 #[test]
 fn names_are_owned(rt: HostRuntime) -> Result<(), Fail> {
     let names = owned_names(rt.alloc(), &[b"A", b"b.c"])?;
-    assert_eq!(rt; names.len(), 2);
-    assert_eq!(rt; names[1].as_str(), "b.c");
+    assert!(rt; names.len() == 2);
+    assert_same(&rt, names[1].as_str(), "b.c");
     Ok(())
 }

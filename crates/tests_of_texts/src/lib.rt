@@ -3,7 +3,7 @@
 #![tactic(auto)]
 
 #[cfg(test)]
-mod commands;
+mod asserts;
 #[cfg(test)]
 mod files;
 #[cfg(test)]

@@ -4,6 +4,7 @@ ghost use Rattle.std.specs.Io.KnownBytes.{Appends};
 ghost use Rattle.qsr_outside.specs.Counts.{Rose};
 ghost use Rattle.qsr_outside.specs.Reading.{IsOkOrMemory};
 
+use crate::asserts::assert_same;
 use qsr_outside::{
     BytesSink, BytesSource, Failed, Gate, MapShelf, NoGate, ReadStop, Shelf, Sink, Source,
     WriteStop, read_all, write_all,
@@ -50,9 +51,9 @@ fn check_reading(rt: &impl Abort, alloc: Global, row: Reading<'_>) -> Result<(),
         None => Ok(bytes),
         Some(stop) => Err(stop),
     };
-    assert_eq!(rt; bytes_of(&read_all(alloc, &mut source, limit)), expected);
+    assert_same(rt, bytes_of(&read_all(alloc, &mut source, limit)), expected);
     let faults = u64::from(stop == Some(ReadStop::ReadFault));
-    assert_eq!(rt; (source.given(), source.faults()), (given, faults));
+    assert_same(rt, (source.given(), source.faults()), (given, faults));
     Ok(())
 }
 
@@ -103,9 +104,13 @@ fn check_writing(rt: &impl Abort, alloc: Global, row: Writing<'_>) -> Result<(),
     let mut sink = BytesSink::new(alloc, piece, failing)?;
     sink.reserve(room)?;
     let is_whole = held.len() == bytes.len();
-    assert_eq!(rt; write_all(&mut sink, bytes).is_ok(), is_whole);
-    assert_eq!(rt; (sink.bytes(), sink.faults()), (held, u64::from(!is_whole)));
-    assert_eq!(rt; sink.room() + sink.bytes().len(), room);
+    assert_same(rt, write_all(&mut sink, bytes).is_ok(), is_whole);
+    assert_same(
+        rt,
+        (sink.bytes(), sink.faults()),
+        (held, u64::from(!is_whole)),
+    );
+    assert_same(rt, sink.room() + sink.bytes().len(), room);
     Ok(())
 }
 
@@ -129,20 +134,21 @@ fn write_all_writes_a_part_where_a_write_fails(rt: HostRuntime) -> Result<(), Fa
 fn reads_two_and_fails(rt: &impl Abort, source: &mut BytesSource) {
     let mut two = *b"--";
     let mut six = *b"------";
-    assert_eq!(rt;
+    assert_same(
+        rt,
         (source.read(&mut two), source.read(&mut six)),
-        (Ok(2), Err(Failed))
+        (Ok(2), Err(Failed)),
     );
-    assert_eq!(rt; source.left(), b"cdefg".as_slice());
+    assert_same(rt, source.left(), b"cdefg".as_slice());
 }
 
 /// Asserts that three bytes are read, then two, and then none.
 fn reads_the_rest(rt: &impl Abort, source: &mut BytesSource) {
     let mut six = *b"------";
-    assert_eq!(rt; source.read(&mut six), Ok(3));
-    assert_eq!(rt; six.as_slice(), b"cde---".as_slice());
+    assert_same(rt, source.read(&mut six), Ok(3));
+    assert_same(rt, six.as_slice(), b"cde---".as_slice());
     let read = (source.read(&mut six), source.read(&mut six));
-    assert_eq!(rt; read, (Ok(2), Ok(0)));
+    assert_same(rt, read, (Ok(2), Ok(0)));
 }
 
 #[test]
@@ -150,19 +156,27 @@ fn a_read_gives_the_least_of_piece_buffer_and_rest(rt: HostRuntime) -> Result<()
     let mut source = BytesSource::new(rt.alloc(), b"abcdefg", 3, &[1])?;
     reads_two_and_fails(&rt, &mut source);
     reads_the_rest(&rt, &mut source);
-    assert_eq!(rt; (source.given(), source.faults()), (7, 1));
+    assert_same(&rt, (source.given(), source.faults()), (7, 1));
     Ok(())
 }
 
 /// Asserts that a sink without room takes nothing.
 fn takes_nothing(rt: &impl Abort, sink: &mut BytesSink) {
-    assert_eq!(rt; (sink.write(b""), sink.write(b"a")), (Ok(0), Err(Failed)));
+    assert_same(
+        rt,
+        (sink.write(b""), sink.write(b"a")),
+        (Ok(0), Err(Failed)),
+    );
 }
 
 /// Asserts that a sink with room for five bytes takes five.
 fn takes_five(rt: &impl Abort, sink: &mut BytesSink) {
-    assert_eq!(rt; (sink.write(b"abcdef"), sink.write(b"ef")), (Ok(4), Ok(1)));
-    assert_eq!(rt; sink.write(b"f"), Err(Failed));
+    assert_same(
+        rt,
+        (sink.write(b"abcdef"), sink.write(b"ef")),
+        (Ok(4), Ok(1)),
+    );
+    assert_same(rt, sink.write(b"f"), Err(Failed));
 }
 
 #[test]
@@ -172,35 +186,44 @@ fn room_is_added_to_the_room_left(rt: HostRuntime) -> Result<(), Fail> {
     sink.reserve(2)?;
     sink.reserve(3)?;
     takes_five(&rt, &mut sink);
-    assert_eq!(rt; (sink.bytes(), sink.faults()), (b"abcde".as_slice(), 2));
+    assert_same(&rt, (sink.bytes(), sink.faults()), (b"abcde".as_slice(), 2));
     Ok(())
 }
 
 /// Asserts that the document `b` is opened once it is asked for, and that a byte of it is read.
 fn opens_a_document(rt: &impl Abort, shelf: &mut MapShelf) {
     let mut byte = [0u8; 1];
-    assert_eq!(rt; (shelf.read(&mut byte), shelf.open("b")), (Ok(0), Ok(())));
-    assert_eq!(rt; shelf.read(&mut byte), Ok(1));
+    assert_same(
+        rt,
+        (shelf.read(&mut byte), shelf.open("b")),
+        (Ok(0), Ok(())),
+    );
+    assert_same(rt, shelf.read(&mut byte), Ok(1));
 }
 
 /// Asserts that the document `b` that is put now is the one that is opened from now on.
 fn opens_a_newer_one(rt: &impl Abort, shelf: &mut MapShelf) -> Result<(), Fail> {
     shelf.put("b", b"newer")?;
-    assert_eq!(rt; shelf.left(), b"ld".as_slice());
-    assert_eq!(rt; shelf.open("b"), Ok(()));
-    assert_eq!(rt; shelf.left(), b"newer".as_slice());
+    assert_same(rt, shelf.left(), b"ld".as_slice());
+    assert_same(rt, shelf.open("b"), Ok(()));
+    assert_same(rt, shelf.left(), b"newer".as_slice());
     Ok(())
 }
 
 /// Asserts that a name without a document isn't opened, and one that has a document the second time.
 fn opens_at_the_second_time(rt: &impl Abort, shelf: &mut MapShelf) {
     let mut byte = [0u8; 1];
-    assert_eq!(rt;
+    assert_same(
+        rt,
         (shelf.open("c"), shelf.read(&mut byte)),
-        (Err(Failed), Ok(0))
+        (Err(Failed), Ok(0)),
     );
-    assert_eq!(rt; (shelf.open("a"), shelf.open("a")), (Err(Failed), Ok(())));
-    assert_eq!(rt; shelf.left(), b"first".as_slice());
+    assert_same(
+        rt,
+        (shelf.open("a"), shelf.open("a")),
+        (Err(Failed), Ok(())),
+    );
+    assert_same(rt, shelf.left(), b"first".as_slice());
 }
 
 #[test]
@@ -212,7 +235,7 @@ fn a_shelf_opens_the_newest_document_of_a_name(rt: HostRuntime) -> Result<(), Fa
     opens_a_newer_one(&rt, &mut shelf)?;
     opens_at_the_second_time(&rt, &mut shelf);
     let counts = (shelf.absent_openings(), shelf.given(), shelf.faults());
-    assert_eq!(rt; counts, (1, 1, 2));
+    assert_same(&rt, counts, (1, 1, 2));
     Ok(())
 }
 
@@ -246,9 +269,9 @@ fn a_generic_caller_copies_a_shelf_to_a_sink(rt: HostRuntime) -> Result<(), Fail
     sink.reserve(64)?;
     NoGate.pass(0);
     let road = (shelf.open("road"), copy(rt.alloc(), &mut shelf, &mut sink));
-    assert_eq!(rt; road, (Ok(()), Ok(true)));
+    assert_same(&rt, road, (Ok(()), Ok(true)));
     let town = (shelf.open("town"), copy(rt.alloc(), &mut shelf, &mut sink));
-    assert_eq!(rt; town, (Ok(()), Err(ReadStop::TooLong)));
-    assert_eq!(rt; sink.bytes(), b"one road".as_slice());
+    assert_same(&rt, town, (Ok(()), Err(ReadStop::TooLong)));
+    assert_same(&rt, sink.bytes(), b"one road".as_slice());
     Ok(())
 }

@@ -1,4 +1,5 @@
 //! Rows of texts, and what is read of them.
+use crate::asserts::{assert_same, assert_same_in};
 use qsr_lex::{
     FirstLine, LexStop, Lines, MAX_TEXT, NamesFault, Token, TokenKind, TokenReader, first_line,
     is_name, lines, name_text, number, signed,
@@ -45,10 +46,11 @@ const TEXTS: [(&[u8], &[Token], u32); 7] = [
 fn a_text_has_its_tokens_and_lines(rt: HostRuntime) -> Result<(), Fail> {
     for (text, tokens, count) in TEXTS {
         let found = read(rt.alloc(), text)?;
-        assert_eq!(rt;
+        assert_same_in(
+            &rt,
             (found.tokens.as_slice(), found.count),
             (tokens, count),
-            "{text:?}"
+            text,
         );
     }
     Ok(())
@@ -67,7 +69,7 @@ const BAD_LINES: [(&[u8], u32); 5] = [
 fn the_first_bad_line_is_named(rt: HostRuntime) {
     for (text, line) in BAD_LINES {
         let stop = read(rt.alloc(), text).err();
-        assert_eq!(rt; stop, Some(LexStop::BadByte { line }), "{text:?}");
+        assert_same_in(&rt, stop, Some(LexStop::BadByte { line }), text);
     }
     assert!(rt; read(rt.alloc(), b"a\t~\r\n").is_ok());
 }
@@ -86,25 +88,25 @@ const FIRST_LINES: [(&[u8], &[u8], &[u8]); 6] = [
 fn the_first_line_of_a_text_is_cut(rt: HostRuntime) {
     for (text, part, after) in FIRST_LINES {
         let expected = Some(FirstLine { part, after });
-        assert_eq!(rt; first_line(text), expected, "{text:?}");
+        assert_same_in(&rt, first_line(text), expected, text);
     }
-    assert_eq!(rt; first_line(b"a\x01#\nb"), None);
-    assert_eq!(rt; first_line(b"a\rb\n"), None);
+    assert_same(&rt, first_line(b"a\x01#\nb"), None);
+    assert_same(&rt, first_line(b"a\rb\n"), None);
 }
 
 /// Asserts that `names(A "b )` is read.
 fn has_names(rt: &impl Abort, tokens: &mut TokenReader<'_>) -> Result<(), Fail> {
     let taken = (tokens.take_word(b"name"), tokens.take_word(b"names"));
-    assert_eq!(rt; taken, (false, true));
+    assert_same(rt, taken, (false, true));
     assert!(rt; tokens.take_kind(TokenKind::Open));
-    assert_eq!(rt; name_text(tokens.name().ok_or("a name")?), "A");
+    assert_same(rt, name_text(tokens.name().ok_or("a name")?), "A");
     Ok(())
 }
 
 /// Asserts that `"b )` is read.
 fn has_no_name(rt: &impl Abort, tokens: &mut TokenReader<'_>) -> Result<(), Fail> {
     assert!(rt; tokens.name().is_none());
-    assert_eq!(rt; tokens.word().ok_or("a word")?, b"\"b".as_slice());
+    assert_same(rt, tokens.word().ok_or("a word")?, b"\"b".as_slice());
     assert!(rt; tokens.take_kind(TokenKind::Close));
     Ok(())
 }
@@ -113,9 +115,10 @@ fn has_no_name(rt: &impl Abort, tokens: &mut TokenReader<'_>) -> Result<(), Fail
 fn has_colons(rt: &impl Abort, tokens: &mut TokenReader<'_>) -> Result<(), Fail> {
     assert!(rt; !tokens.is_empty());
     let colons = tokens.next().ok_or("colons")?;
-    assert_eq!(rt;
+    assert_same(
+        rt,
         (colons.kind, colons.text),
-        (TokenKind::Colons, b"::".as_slice())
+        (TokenKind::Colons, b"::".as_slice()),
     );
     Ok(())
 }
@@ -128,7 +131,7 @@ fn a_line_is_read_token_by_token(rt: HostRuntime) -> Result<(), Fail> {
     has_colons(&rt, &mut tokens)?;
     assert!(rt; tokens.take_kind(TokenKind::Stop));
     assert!(rt; tokens.is_empty());
-    assert_eq!(rt; tokens.next(), None);
+    assert_same(&rt, tokens.next(), None);
     Ok(())
 }
 
@@ -139,8 +142,8 @@ fn has_three_names(
     tokens: &mut TokenReader<'_>,
 ) -> Result<(), Fail> {
     let names = tokens.names(alloc, 3)?;
-    assert_eq!(rt; names.len(), 3);
-    assert_eq!(rt; *names.last().ok_or("a name")?, b"b".as_slice());
+    assert_same(rt, names.len(), 3);
+    assert_same(rt, *names.last().ok_or("a name")?, b"b".as_slice());
     assert!(rt; tokens.names(alloc, 0)?.is_empty());
     Ok(())
 }
@@ -150,7 +153,7 @@ fn names_in_brackets_are_read(rt: HostRuntime) -> Result<(), Fail> {
     let mut tokens = TokenReader::new(b"( A A b ) ( ) ( A B C ) ( A B 0 ) ( 0 )");
     has_three_names(&rt, rt.alloc(), &mut tokens)?;
     for fault in [NamesFault::TooMany, NamesFault::Form, NamesFault::Form] {
-        assert_eq!(rt; tokens.names(rt.alloc(), 1).err(), Some(fault));
+        assert_same(&rt, tokens.names(rt.alloc(), 1).err(), Some(fault));
     }
     Ok(())
 }
@@ -158,8 +161,8 @@ fn names_in_brackets_are_read(rt: HostRuntime) -> Result<(), Fail> {
 #[test]
 fn a_text_has_at_most_16777216_bytes(rt: HostRuntime) -> Result<(), Fail> {
     let most = vec![in rt.alloc(); b'\n'; 16_777_216]?;
-    assert_eq!(rt; read(rt.alloc(), &most)?.count, 16_777_216);
-    assert_eq!(rt; MAX_TEXT, 16_777_216);
+    assert_same(&rt, read(rt.alloc(), &most)?.count, 16_777_216);
+    assert_same(&rt, MAX_TEXT, 16_777_216);
     Ok(())
 }
 
@@ -175,7 +178,7 @@ const NUMBERS: [(&[u8], Option<u64>); 5] = [
 #[test]
 fn numbers_have_their_value(rt: HostRuntime) {
     for (digits, value) in NUMBERS {
-        assert_eq!(rt; number(digits), value, "{digits:?}");
+        assert_same_in(&rt, number(digits), value, digits);
     }
 }
 
@@ -191,7 +194,7 @@ const SIGNED: [(&[u8], Option<i64>); 5] = [
 #[test]
 fn numbers_with_a_sign_have_their_value(rt: HostRuntime) {
     for (text, value) in SIGNED {
-        assert_eq!(rt; signed(text), value, "{text:?}");
+        assert_same_in(&rt, signed(text), value, text);
     }
 }
 
@@ -211,6 +214,6 @@ const WORDS: [(&[u8], bool); 9] = [
 #[test]
 fn names_are_told_from_other_words(rt: HostRuntime) {
     for (word, expected) in WORDS {
-        assert_eq!(rt; is_name(word), expected, "{word:?}");
+        assert_same_in(&rt, is_name(word), expected, word);
     }
 }

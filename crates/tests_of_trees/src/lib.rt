@@ -3,7 +3,7 @@
 #![tactic(auto)]
 
 #[cfg(test)]
-mod certificates;
+mod asserts;
 #[cfg(test)]
 mod colours;
 #[cfg(test)]

@@ -2,8 +2,9 @@
 //! traced trees list.
 ghost use Rattle.std.specs.Prelude.{◌<◌, ◌^◌, All, IfOk, IsTrue, length};
 ghost use Rattle.network_words.specs.Network.{IsNetwork};
-ghost use Rattle.refutation.specs.Tree.{AreFewSteps};
+ghost use Rattle.split_trees.specs.Tree.{AreFewSteps};
 
+use crate::asserts::assert_same;
 use crate::colours::{A, B, FAN, ramsey};
 use crate::nets::{have_words, is_network, net_of, sets_of};
 use calculus_table::{Calculus, Compose};
@@ -380,7 +381,7 @@ const PENTAGON: [Row; 11] = [
 fn a_found_leaf_refutes_nothing(rt: HostRuntime) -> Result<(), Fail> {
     let (said, splits) = checked(&rt, rt.alloc(), &[6; 10], 5, &PENTAGON)?;
     assert!(rt; said == Err(TreeFault::BadTree { node: 7 }));
-    assert_eq!(rt; splits, 5);
+    assert_same(&rt, splits, 5);
     Ok(())
 }
 

@@ -1,6 +1,6 @@
 use Rattle.std.proofs.Common.{◌≡◌, map, take, length, Ok, All}
 use Rattle.serde_json.specs.View.{view}
-use Rattle.refutation.specs.Tree.{AreFewSteps}
+use Rattle.split_trees.specs.Tree.{AreFewSteps}
 use Rattle.cert_file.specs.Parts.{values}
 use Rattle.cert_file.specs.Nodes.{node_of}
 use Rattle.cert_file.proofs.nodes.nodes.Given as goal

@@ -4,7 +4,7 @@ use Rattle.std.proofs.lemmas.List.Elements.{All-push}
 use Rattle.serde_json.specs.Data.{array}
 use Rattle.serde_json.specs.View.{view, items_of}
 use Rattle.serde_json.proofs.Views.{view-Array}
-use Rattle.refutation.specs.Tree.{TreeNode}
+use Rattle.split_trees.specs.Tree.{TreeNode}
 use Rattle.cert_file.specs.Written.{node_json, IsNodeOfNumbers, IsTreeOfNumbers}
 use Rattle.cert_file.proofs.writing.tree_value.Goals as goal
 

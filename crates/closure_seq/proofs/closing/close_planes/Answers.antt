@@ -1,9 +1,9 @@
 use Rattle.std.proofs.Common.{◌∙◌, ℕ, List, sym, subst}
 use Rattle.network_words.specs.Network.{IsNetwork}
-use Rattle.closure_seq.specs.Propagation.{IsInStep}
-use Rattle.closure_seq.proofs.Settled.{AreClosed-all}
-use Rattle.closure_seq.proofs.Starts.{IsSettled-begun}
-use Rattle.closure_seq.proofs.Loads.{AreConverses-in_step, IsInStep-stored}
+use Rattle.edge_propagation.specs.Propagation.{IsInStep}
+use Rattle.edge_propagation.proofs.Settled.{AreClosed-all}
+use Rattle.edge_propagation.proofs.Starts.{IsSettled-begun}
+use Rattle.edge_propagation.proofs.Loads.{AreConverses-in_step, IsInStep-stored}
 use Rattle.closure_seq.proofs.Closures.{IsClosure-stored, IsClosure-emptied}
 use Rattle.closure_seq.proofs.closing.close_planes.Goals as goal
 

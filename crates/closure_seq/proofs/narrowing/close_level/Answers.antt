@@ -2,8 +2,8 @@ use Rattle.std.proofs.Common.{subst, ap, ◌∙◌}
 use Rattle.std.proofs.lemmas.Result.{IfErr-weaker}
 use Rattle.compose_fast.specs.Planes.{AreBaseTables}
 use Rattle.network_words.proofs.Pairs.{pair-ordered}
-use Rattle.closure_seq.specs.Worklist.{Worklist}
-use Rattle.closure_seq.specs.Propagation.{IsRefinement, all_nodes}
+use Rattle.edge_propagation.specs.Worklist.{Worklist}
+use Rattle.edge_propagation.specs.Propagation.{IsRefinement, all_nodes}
 use Rattle.closure_seq.proofs.Standing.{IsReady-narrowed, IsSettled-narrowed, IsInStepBut-narrowed, IsWithin-narrowed, IsClosure-level, IsStanding-level, IsEmptyClosure-level, on_ok_both}
 use Rattle.closure_seq.proofs.narrowing.close_level.Goals as goal
 

@@ -1,12 +1,12 @@
 use Rattle.std.proofs.Common.{subst, sym, ◌∙◌, ap, refl, arith, length}
 use Rattle.std.proofs.lemmas.List.{length-set}
-use Rattle.closure_seq.specs.Worklist.{Worklist}
+use Rattle.edge_propagation.specs.Worklist.{Worklist}
 use Rattle.closure_seq.specs.Levels.{LevelSets}
-use Rattle.closure_seq.specs.Propagation.{AreClosed}
+use Rattle.edge_propagation.specs.Propagation.{AreClosed}
 use Rattle.closure_seq.specs.Paths.{IsInStepBut}
-use Rattle.closure_seq.proofs.Places.{waiting-pair}
-use Rattle.closure_seq.proofs.Steps.{IsRefinement-refl, IsRefinement-step, IsRefinement-queue, IsReady-refinement}
-use Rattle.closure_seq.proofs.Settled.{IsReady-queue, IsSettledBut-popped, AreRowsClosed-idle, AreClosed-all}
+use Rattle.edge_propagation.proofs.Places.{waiting-pair}
+use Rattle.edge_propagation.proofs.Steps.{IsRefinement-refl, IsRefinement-step, IsRefinement-queue, IsReady-refinement}
+use Rattle.edge_propagation.proofs.Settled.{IsReady-queue, IsSettledBut-popped, AreRowsClosed-idle, AreClosed-all}
 use Rattle.closure_seq.proofs.Trails.{rest-levels}
 use Rattle.closure_seq.proofs.InStep.{IsInStepBut-stored, IsInStepBut-again, IsInStepBut-step}
 use Rattle.closure_seq.proofs.narrowing.propagate_level.Goals as goal

@@ -1,6 +1,6 @@
 use Rattle.std.proofs.Common.{◌≡◌, length}
-use Rattle.closure_seq.specs.Worklist.{work_left}
-use Rattle.closure_seq.specs.Propagation.{IsRefinement, IsSettled}
+use Rattle.edge_propagation.specs.Worklist.{work_left}
+use Rattle.edge_propagation.specs.Propagation.{IsRefinement, IsSettled}
 use Rattle.closure_seq.specs.Paths.{IsInStepBut}
 use Rattle.closure_seq.proofs.narrowing.propagate_level.Given as goal
 

@@ -1,9 +1,9 @@
 use Rattle.std.proofs.Common.{◌<◌, subst, sym, ◌∙◌, ap, refl, arith, length}
 use Rattle.calculus_table.specs.Rel.{IsWithin}
-use Rattle.closure_seq.specs.Worklist.{Worklist, edge_place}
-use Rattle.closure_seq.specs.Propagation.{IsInStep}
+use Rattle.edge_propagation.specs.Worklist.{Worklist, edge_place}
+use Rattle.edge_propagation.specs.Propagation.{IsInStep}
 use Rattle.closure_seq.specs.Paths.{IsQuiet}
-use Rattle.closure_seq.proofs.Places.{waiting-pair, count-cleared, edge_place-inside}
+use Rattle.edge_propagation.proofs.Places.{waiting-pair, count-cleared, edge_place-inside}
 use Rattle.closure_seq.proofs.InStep.{IsInStepBut-reset, IsInStep-quiet}
 use Rattle.closure_seq.proofs.narrowing.reset_queued.Goals as goal
 

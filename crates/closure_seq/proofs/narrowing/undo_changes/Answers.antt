@@ -2,7 +2,7 @@ use Rattle.std.proofs.Common.{◌∷◌, [], subst, ◌∙◌, ap, refl, arith, 
 use Rattle.std.proofs.lemmas.List.{length-append}
 use Rattle.calculus_table.specs.Rel.{IsWithin}
 use Rattle.network_words.proofs.Pairs.{pair-ordered}
-use Rattle.closure_seq.specs.Worklist.{Worklist}
+use Rattle.edge_propagation.specs.Worklist.{Worklist}
 use Rattle.closure_seq.specs.Levels.{LevelSets}
 use Rattle.closure_seq.proofs.Trails.{rest-levels}
 use Rattle.closure_seq.proofs.InStep.{IsInStep-undone}

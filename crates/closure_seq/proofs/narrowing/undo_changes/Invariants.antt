@@ -1,5 +1,5 @@
 use Rattle.std.proofs.Common.{◌≡◌, length}
-use Rattle.closure_seq.specs.Propagation.{IsInStep}
+use Rattle.edge_propagation.specs.Propagation.{IsInStep}
 use Rattle.closure_seq.specs.Paths.{IsQuiet}
 use Rattle.closure_seq.proofs.narrowing.undo_changes.Given as goal
 

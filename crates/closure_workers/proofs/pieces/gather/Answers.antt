@@ -9,7 +9,7 @@ use Rattle.narrow_core.specs.Actor.{ActorState, met_words}
 use Rattle.closure_workers.specs.declared.pieces.Piece.{Piece}
 use Rattle.edge_table.specs.Opening.{algebra_of}
 use Rattle.closure_seq.specs.Copies.{CopyState}
-use Rattle.closure_workers.specs.Slices.{IsHeld}
+use Rattle.edge_slices.specs.Slices.{IsHeld}
 use Rattle.closure_workers.specs.Pieces.{IsPieceOf, AreHeld, IsBetween, HasSeen}
 use Rattle.narrow_core.proofs.Sights.{met-within_l, met-within_r}
 use Rattle.closure_workers.proofs.pieces.gather.Goals as goal

@@ -1,6 +1,6 @@
 use Rattle.std.specs.Prelude.{Some}
 use Rattle.std.proofs.lemmas.List.Elements.{All-pop}
-use Rattle.closure_workers.specs.Slices.{IsHeld}
+use Rattle.edge_slices.specs.Slices.{IsHeld}
 use Rattle.closure_workers.proofs.pieces.next_held.Goals as goal
 
 pub returns-in-Some-clause-held : goal.returns-in-Some-clause-held

@@ -1,7 +1,7 @@
 use Rattle.std.proofs.Common.{◌≡◌, ℕ, List, ap, sym, subst, ◌∙◌}
 use Rattle.network_words.specs.Network.{Network}
 use Rattle.network_words.proofs.Refinements.{IsNetwork-kept}
-use Rattle.closure_workers.specs.Slices.{HasClash}
+use Rattle.edge_slices.specs.Slices.{HasClash}
 use Rattle.closure_workers.proofs.OneRound.{IsClosed-empty, KeepsClosed-empty, sum-round}
 use Rattle.closure_workers.proofs.rounds.round.Goals as goal
 

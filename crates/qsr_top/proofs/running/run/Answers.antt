@@ -1,7 +1,7 @@
 use Rattle.std.proofs.Common.{map}
 use Rattle.std.specs.String.{string_bytes}
 use Rattle.qsr_words.specs.Asked.{asked_by}
-use Rattle.qsr_top.proofs.Answering.{memory_runs}
+use Rattle.qsr_commands.proofs.Answering.{memory_runs}
 use Rattle.qsr_top.proofs.running.run.Goals as goal
 
 pub returns-in-Ok : goal.returns-in-Ok

@@ -1,8 +1,8 @@
 use Rattle.std.proofs.Common.{ap, refl, sym, rules}
 use Rattle.qsr_words.specs.Asked.{close, solve, check, trace, relate, demo}
 use Rattle.qsr_words.specs.Requests.{asked_of, close_of, solve_of, check_of, relate_of, demo_of}
-use Rattle.qsr_top.proofs.Answering.{command_runs, usage_runs}
-use Rattle.qsr_top.proofs.CommandAnswers.{relate_alone, demo_answers}
+use Rattle.qsr_commands.proofs.Answering.{command_runs, usage_runs}
+use Rattle.qsr_commands.proofs.CommandAnswers.{relate_alone, demo_answers}
 use Rattle.qsr_top.proofs.running.run_request.Goals as goal
 
 pub returns-in-Close : goal.returns-in-Close

@@ -1,6 +1,6 @@
 use Rattle.std.proofs.Common.{ℕ, ◌<◌, ◌↔◌, IsTrue, slice_get, Some, ◌≡◌}
 use Rattle.network_words.specs.Edge.{IsProperTriple}
-use Rattle.refutation.specs.declared.tree.Step.{Step}
+use Rattle.split_trees.specs.declared.tree.Step.{Step}
 use Rattle.refutation.proofs.forms.are_proper.Given as goal
 
 abbrev pub invariant-loop-step : goal.invariant-loop-step

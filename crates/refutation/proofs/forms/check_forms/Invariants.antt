@@ -1,5 +1,5 @@
 use Rattle.std.proofs.Common.{◌≡◌, ℕ, ◌<◌, slice_get, Some}
-use Rattle.refutation.specs.Tree.{TreeNode}
+use Rattle.split_trees.specs.Tree.{TreeNode}
 use Rattle.refutation.specs.TreeFault.{IsFormed}
 use Rattle.refutation.proofs.forms.check_forms.Given as goal
 

@@ -1,6 +1,6 @@
 use Rattle.std.proofs.Common.{ℕ, ◌<◌, slice_get, Some, ◌≡◌}
 use Rattle.network_words.specs.Edge.{IsProperTriple}
-use Rattle.refutation.specs.declared.tree.Step.{Step}
+use Rattle.split_trees.specs.declared.tree.Step.{Step}
 use Rattle.refutation.proofs.forms.first_bad_step.Given as goal
 
 abbrev pub invariant-loop-s : goal.invariant-loop-s

@@ -1,4 +1,4 @@
-use Rattle.refutation.proofs.RuledSteps.{ruled_steps, ruled-unique, ruled-closure}
+use Rattle.stepped_networks.proofs.RuledSteps.{ruled_steps, ruled-unique, ruled-closure}
 use Rattle.refutation.proofs.TracedLaws.{traced-refutes_too, traced-no_sweep, traced-bare_leaves, traced-length}
 use Rattle.refutation.proofs.laws.laws_of_traced_trees.Goals as goal
 

@@ -4,12 +4,12 @@ use Rattle.std.proofs.lemmas.Grind.{get_or_default_zero}
 use Rattle.network_words.specs.Edge.{edge_at}
 use Rattle.network_words.specs.Network.{IsNetwork}
 use Rattle.refutation.specs.declared.walking.Entered.{Entered}
-use Rattle.refutation.specs.Tree.{TreeNode, split_parts}
-use Rattle.refutation.specs.Refutes.{after_steps, met_at}
-use Rattle.refutation.specs.Networks.{NetworkStack}
-use Rattle.refutation.specs.Passes.{AreStepsOf}
+use Rattle.split_trees.specs.Tree.{TreeNode, split_parts}
+use Rattle.split_trees.specs.Refutes.{after_steps, met_at}
+use Rattle.stepped_networks.specs.Networks.{NetworkStack}
+use Rattle.stepped_networks.specs.Passes.{AreStepsOf}
 use Rattle.refutation.specs.Tracings.{is_cut, IsTracing}
-use Rattle.refutation.proofs.Worked.{after_steps-network, met_at-network}
+use Rattle.stepped_networks.proofs.Worked.{after_steps-network, met_at-network}
 use Rattle.refutation.proofs.Tracings.{tracing-next}
 use Rattle.refutation.proofs.Ways.{last-read, same-node, next-order, next-below, next-parts, parts-split, reverse-set}
 use Rattle.refutation.proofs.tracing.enter_child.Goals as goal

@@ -1,6 +1,6 @@
 use Rattle.std.proofs.Common.{◌≡◌, ◌∷◌, reverse, refl, ap, ◌∙◌}
 use Rattle.refutation.specs.declared.walking.Entered.{Entered}
-use Rattle.refutation.specs.Networks.{NetworkStack}
+use Rattle.stepped_networks.specs.Networks.{NetworkStack}
 use Rattle.refutation.specs.Ways.{IsFinished}
 use Rattle.refutation.proofs.Ways.{reverse-front, reverse-push, same-node, stack-left}
 use Rattle.refutation.proofs.Tracings.{tracing-last, tracing-before, tracing-under, tracing-network, tracing-visited}

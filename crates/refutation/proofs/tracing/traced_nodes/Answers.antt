@@ -3,9 +3,9 @@ use Rattle.std.specs.Prelude.{All}
 use Rattle.std.proofs.lemmas.Option.{slice_get_read}
 use Rattle.std.proofs.lemmas.List.Elements.{All-nil}
 use Rattle.refutation.specs.declared.walking.Entered.{Entered}
-use Rattle.refutation.specs.Tree.{TreeNode, AreFewSteps, listed}
-use Rattle.refutation.specs.Networks.{NetworkStack}
-use Rattle.refutation.specs.Passes.{AreStepsOf}
+use Rattle.split_trees.specs.Tree.{TreeNode, AreFewSteps, listed}
+use Rattle.stepped_networks.specs.Networks.{NetworkStack}
+use Rattle.stepped_networks.specs.Passes.{AreStepsOf}
 use Rattle.refutation.specs.Tracings.{with_steps, is_cut}
 use Rattle.refutation.proofs.Numbered.{formed-tree}
 use Rattle.refutation.proofs.Tracings.{refuting-some, tracing-begun, traced-end}

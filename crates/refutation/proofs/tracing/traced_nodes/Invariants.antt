@@ -1,6 +1,6 @@
 use Rattle.std.proofs.Common.{◌≡◌, ◌∷◌, reverse}
 use Rattle.std.specs.Prelude.{All}
-use Rattle.refutation.specs.Tree.{AreFewSteps}
+use Rattle.split_trees.specs.Tree.{AreFewSteps}
 use Rattle.refutation.specs.Tracings.{IsTracing}
 use Rattle.refutation.proofs.tracing.traced_nodes.Given as goal
 

@@ -4,12 +4,12 @@ use Rattle.std.proofs.lemmas.Grind.{get_or_default_zero}
 use Rattle.network_words.specs.Edge.{edge_at}
 use Rattle.network_words.specs.Network.{IsNetwork}
 use Rattle.refutation.specs.declared.walking.Entered.{Entered}
-use Rattle.refutation.specs.Tree.{TreeNode, split_parts}
-use Rattle.refutation.specs.Steps.{node_steps}
-use Rattle.refutation.specs.Refutes.{IsWorked, met_at}
-use Rattle.refutation.specs.Networks.{NetworkStack}
+use Rattle.split_trees.specs.Tree.{TreeNode, split_parts}
+use Rattle.split_trees.specs.Steps.{node_steps}
+use Rattle.split_trees.specs.Refutes.{IsWorked, met_at}
+use Rattle.stepped_networks.specs.Networks.{NetworkStack}
 use Rattle.refutation.specs.Ways.{IsStanding}
-use Rattle.refutation.proofs.Worked.{worked-network, met_at-network}
+use Rattle.stepped_networks.proofs.Worked.{worked-network, met_at-network}
 use Rattle.refutation.proofs.Pendings.{visiting-next}
 use Rattle.refutation.proofs.Ways.{last-read, same-node, next-order, next-below, next-parts, parts-split, standing-network, reverse-set}
 use Rattle.refutation.proofs.walking.enter_next.Goals as goal

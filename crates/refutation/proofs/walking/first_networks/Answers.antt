@@ -1,8 +1,8 @@
 use Rattle.std.proofs.Common.{◌≡◌, ap, subst, sym, refl, slice_get, Some}
 use Rattle.std.proofs.lemmas.Result.{IfOk-weaker}
 use Rattle.std.proofs.lemmas.Option.{slice_get_read}
-use Rattle.refutation.specs.Tree.{TreeNode, AreSteps, sweep}
-use Rattle.refutation.specs.Networks.{IsStackOf}
+use Rattle.split_trees.specs.Tree.{TreeNode, AreSteps, sweep}
+use Rattle.stepped_networks.specs.Networks.{IsStackOf}
 use Rattle.refutation.specs.Ways.{IsFirstStack}
 use Rattle.refutation.proofs.Firsts.{first-swept}
 use Rattle.refutation.proofs.walking.first_networks.Goals as goal

@@ -1,5 +1,5 @@
 use Rattle.std.proofs.Common.{◌≡◌, ◌∷◌, reverse, ap, ◌∙◌}
-use Rattle.refutation.specs.Networks.{NetworkStack}
+use Rattle.stepped_networks.specs.Networks.{NetworkStack}
 use Rattle.refutation.specs.Ways.{IsFinished}
 use Rattle.refutation.proofs.Ways.{standing-last, standing-before, under-some, reverse-front, stack-left}
 use Rattle.refutation.proofs.walking.go_on.Goals as goal

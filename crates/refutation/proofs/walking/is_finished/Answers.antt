@@ -1,7 +1,7 @@
 use Rattle.std.proofs.Common.{◌≡◌, ◌-◌, ◌<◌, ◌≤◌, ◌∙◌, length, get_or, sym, ap, arith, rules}
 use Rattle.std.proofs.lemmas.Option.{slice_get_within}
 use Rattle.refutation.specs.declared.walking.Entered.{Entered}
-use Rattle.refutation.specs.Tree.{split_parts}
+use Rattle.split_trees.specs.Tree.{split_parts}
 use Rattle.refutation.proofs.Ways.{last-read, last-node}
 use Rattle.refutation.proofs.walking.is_finished.Goals as goal
 

@@ -1,6 +1,6 @@
 use Rattle.std.proofs.Common.{◌≡◌, drop}
 use Rattle.std.specs.Prelude.{bit_or}
-use Rattle.refutation.specs.Refutes.{union_of}
+use Rattle.split_trees.specs.Refutes.{union_of}
 use Rattle.refutation.proofs.walking.union_of.Given as goal
 
 abbrev pub invariant-loop-part : goal.invariant-loop-part

@@ -1,7 +1,7 @@
 use Rattle.std.proofs.Common.{◌≡◌, inl, refl, sym, ap, ◌∙◌, subst, reverse, slice_get, Some}
 use Rattle.std.proofs.lemmas.Result.{err_from_is_err_and}
 use Rattle.refutation.specs.declared.walking.Entered.{Entered}
-use Rattle.refutation.specs.Tree.{TreeNode}
+use Rattle.split_trees.specs.Tree.{TreeNode}
 use Rattle.refutation.specs.Ways.{IsSound, IsFaultAt}
 use Rattle.refutation.proofs.Ways.{same-node, reverse-push}
 use Rattle.refutation.proofs.Pendings.{standing-visited, fault-visited}

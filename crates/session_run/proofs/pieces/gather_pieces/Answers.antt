@@ -4,7 +4,7 @@ use Rattle.std.proofs.lemmas.List.Elements.{All-push, All-pop}
 use Rattle.narrow_core.specs.Actor.{ActorState}
 use Rattle.edge_table.specs.Opening.{PassState, algebra_of}
 use Rattle.closure_seq.specs.Copies.{CopyState}
-use Rattle.closure_workers.specs.Slices.{IsHeld}
+use Rattle.edge_slices.specs.Slices.{IsHeld}
 use Rattle.closure_workers.specs.Pieces.{AreHeld}
 use Rattle.session_run.specs.declared.pieces.Piece.{Piece}
 use Rattle.session_run.specs.Phase.{HasWorked}

@@ -1,5 +1,5 @@
 use Rattle.std.proofs.Common.{ℕ, sym, subst}
-use Rattle.closure_seq.specs.Worklist.{IsBegun}
+use Rattle.edge_propagation.specs.Worklist.{IsBegun}
 use Rattle.closure_seq.specs.Copies.{CopyState, IsCopyOf}
 use Rattle.closure_seq.proofs.Copies.{IsSettledCopy-begun}
 use Rattle.closure_seq.proofs.copy.SliceCopy.begin.Goals as goal

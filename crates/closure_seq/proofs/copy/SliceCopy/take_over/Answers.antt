@@ -1,8 +1,8 @@
 use Rattle.std.proofs.Common.{◌≡◌, ap, sym, refl, ◌∙◌, subst}
 use Rattle.network_words.specs.Network.{IsNetwork}
-use Rattle.closure_seq.specs.Worklist.{Worklist}
+use Rattle.edge_propagation.specs.Worklist.{Worklist}
 use Rattle.closure_seq.specs.Copies.{CopyState, AreRowsOf}
-use Rattle.closure_seq.proofs.Loads.{AreConverses-in_step}
+use Rattle.edge_propagation.proofs.Loads.{AreConverses-in_step}
 use Rattle.closure_seq.proofs.copy.SliceCopy.take_over.Goals as goal
 
 pub returns-clause-is_open : goal.returns-clause-is_open

@@ -2,11 +2,12 @@ use Rattle.std.proofs.Common.{◌≡◌, ℕ, List, ap, sym, ◌∙◌, subst, a
 use Rattle.std.proofs.lemmas.List.Elements.{All-nil}
 use Rattle.network_words.specs.Network.{Network, IsNetwork}
 use Rattle.compose_fast.specs.Planes.{AreBaseTables}
-use Rattle.closure_seq.specs.Worklist.{Worklist, Room}
-use Rattle.closure_seq.specs.Propagation.{IsInStep}
+use Rattle.edge_propagation.specs.Worklist.{Worklist, Room}
+use Rattle.edge_propagation.specs.Propagation.{IsInStep}
 use Rattle.closure_seq.specs.Levels.{LevelSets}
-use Rattle.closure_seq.specs.Paths.{IsPlanes, IsClosedNetwork}
-use Rattle.closure_seq.proofs.Loads.{IsInStep-queue}
+use Rattle.closure_seq.specs.Paths.{IsClosedNetwork}
+use Rattle.edge_propagation.specs.Propagation.{IsPlanes}
+use Rattle.edge_propagation.proofs.Loads.{IsInStep-queue}
 use Rattle.closure_seq.proofs.Counted.{IsClosedNetwork-closure}
 use Rattle.closure_seq.proofs.path.ClosedPath.new.Goals as goal
 

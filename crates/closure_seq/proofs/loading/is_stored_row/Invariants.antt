@@ -1,8 +1,0 @@
-use Rattle.std.proofs.Common.{◌≡◌, ℕ, ◌<◌}
-use Rattle.std.specs.Prelude.{slice_index}
-use Rattle.network_words.specs.Edge.{edge_at}
-use Rattle.closure_seq.specs.Worklist.{set_of}
-use Rattle.closure_seq.proofs.loading.is_stored_row.Given as goal
-
-abbrev pub invariant-loop-j : goal.invariant-loop-j
-invariant-loop-j l = (q : ℕ) → l.i < q → q < l.j → slice_index l.words (edge_at l.work.nodes l.i q) ≡ set_of l.work l.i q

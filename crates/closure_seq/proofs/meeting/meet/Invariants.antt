@@ -1,5 +1,0 @@
-use Rattle.closure_seq.specs.Copies.{IsMet}
-use Rattle.closure_seq.proofs.meeting.meet.Given as goal
-
-abbrev pub invariant-loop-i : goal.invariant-loop-i
-invariant-loop-i g l = IsMet (g.C.Compose.algebra l.c) l.fn.work l.work

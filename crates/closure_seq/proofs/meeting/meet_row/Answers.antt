@@ -1,8 +1,0 @@
-use Rattle.closure_seq.proofs.Steps.{IsMet-refl, IsMet-trans}
-use Rattle.closure_seq.proofs.meeting.meet_row.Goals as goal
-
-pub loop-j-init : goal.loop-j-init
-loop-j-init g c = IsMet-refl _ _ c.requires.sets
-
-pub loop-j-preserved : goal.loop-j-preserved
-loop-j-preserved g c = IsMet-trans _ _ _ _ c.loop-j.invariant c.meet_pair.ensures

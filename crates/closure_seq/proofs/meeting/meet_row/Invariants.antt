@@ -1,5 +1,0 @@
-use Rattle.closure_seq.specs.Copies.{IsMet}
-use Rattle.closure_seq.proofs.meeting.meet_row.Given as goal
-
-abbrev pub invariant-loop-j : goal.invariant-loop-j
-invariant-loop-j g l = IsMet (g.C.Compose.algebra l.c) l.fn.work l.work

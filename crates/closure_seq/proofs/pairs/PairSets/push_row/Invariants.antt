@@ -1,5 +1,0 @@
-use Rattle.closure_seq.proofs.Starts.{IsRowBegun}
-use Rattle.closure_seq.proofs.pairs.PairSets.push_row.Given as goal
-
-abbrev pub invariant-loop-j : goal.invariant-loop-j
-invariant-loop-j l = IsRowBegun l.initial.self l.self l.full l.i l.j

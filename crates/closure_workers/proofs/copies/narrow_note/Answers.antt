@@ -1,4 +1,0 @@
-use Rattle.closure_workers.proofs.copies.narrow_note.Goals as goal
-
-pub returns-clause-reads : goal.returns-clause-reads
-returns-clause-reads g c = c.narrow_along.ensures.looks.reads

@@ -1,4 +1,0 @@
-use Rattle.closure_workers.proofs.copies.take_turn.Goals as goal
-
-pub returns-then-not-settled-clause-settled : goal.returns-then-not-settled-clause-settled
-returns-then-not-settled-clause-settled g c = λ not_clash known. absurd (known (c.after_empty.ensures.unknown not_clash))

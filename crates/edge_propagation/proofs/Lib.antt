@@ -1,0 +1,9 @@
+pub mod Places
+pub mod Planes
+pub mod Starts
+pub mod Steps
+pub mod Settled
+pub mod Sweeps
+pub mod Blocks
+pub mod Loads
+pub mod FullSets

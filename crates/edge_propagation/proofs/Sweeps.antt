@@ -1,0 +1,23 @@
+-- The pairs of a node with greater ones, narrowed along one third node after another.
+use Rattle.std.proofs.Common.{◌≡◌, ℕ, ◌+◌, ◌<◌, subst, sym, arith, inl, inr}
+use Rattle.std.proofs.lemmas.Bool.{cases_lt}
+use Rattle.calculus_table.specs.Algebra.{Algebra}
+use Rattle.network_words.specs.Edge.{IsProperTriple}
+use Rattle.edge_propagation.specs.Worklist.{Worklist}
+use Rattle.edge_propagation.specs.Propagation.{IsStep, IsSettledAt}
+use Rattle.edge_propagation.proofs.Settled.{IsSettledAt-step}
+
+-- the triples of i, the nodes below j and greater nodes are settled
+abbrev pub IsRowSwept : Algebra → Worklist → ℕ → ℕ → Type 0
+IsRowSwept m work i j = (q k : ℕ) → q < j → i < k → IsProperTriple work.nodes i q k → IsSettledAt m work i q k
+
+pub IsRowSwept-node : (m : Algebra) (old new : Worklist) (i j : ℕ) → IsStep m old new → IsRowSwept m old i j →
+    ((k : ℕ) → i < k → IsProperTriple old.nodes i j k → IsSettledAt m new i j k) → IsRowSwept m new i (j + 1)
+IsRowSwept-node m old new i j p before here = λ q k below order t'.
+    let t : IsProperTriple old.nodes i q k = subst (λ n. IsProperTriple n i q k) p.nodes t' in
+    elim (cases_lt q j) as (λ _. IsSettledAt m new i q k) [
+      | inl earlier ↦ IsSettledAt-step m old new i q k p t (before q k earlier order t)
+      | inr later ↦
+          (let same : q ≡ j = omega arith in
+          rw same (here k order (rw same at t)))
+    ]

@@ -1,0 +1,5 @@
+use Rattle.edge_propagation.specs.Propagation.{IsMet}
+use Rattle.edge_propagation.proofs.meeting.meet.Given as goal
+
+abbrev pub invariant-loop-i : goal.invariant-loop-i
+invariant-loop-i g l = IsMet (g.C.Compose.algebra l.c) l.fn.work l.work

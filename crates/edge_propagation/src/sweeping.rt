@@ -1,0 +1,97 @@
+//! Sweeping: the pairs of a node with greater ones are narrowed along every third node, one after another.
+//!
+//! Where many edges are stated, most of them restrict something. So each is looked at once, in the order of the rows,
+//! in place of being queued first and taken off the queue again; and what became smaller meanwhile is queued.
+//!
+//! What restricts most is looked at first (van Beek and Manchak 1996): a first sweep goes along the sets of few base
+//! relations alone, so that the whole one after it finds little to narrow.
+
+ghost use Rattle.std.specs.Prelude.{◌≡◌, ℕ, ◌<◌, OnOk};
+ghost use Rattle.network_words.specs.Edge.{IsProperTriple};
+ghost use Rattle.compose_fast.specs.Planes.{AreBaseTables};
+ghost use Rattle.edge_propagation.specs.Propagation.{IsReady, IsStep, IsSettledAt, IsRowSettled};
+
+use crate::pairs::PairSets;
+use crate::propagation::{Emptied, propagate_span};
+use crate::span::Span;
+use calculus_table::{Compose, Rel};
+use compose_fast::Tables;
+
+/// The most base relations of a set that the first sweep goes along.
+const FEW: u32 = 2;
+
+/// Along which third nodes a sweep narrows the pairs of a node.
+#[derive(Clone, Copy, Debug, PartialEq, Eq)]
+pub enum Sweep {
+    /// Those to which it has few base relations.
+    First,
+    /// All.
+    Whole,
+}
+
+impl Sweep {
+    ghost use Rattle.std.specs.Prelude.{◌≡◌, true};
+
+    /// Whether a sweep goes along a set.
+    #[inline(always)]
+    fn goes_along(self, rel: Rel) -> bool
+        ensures { self ≡ Sweep.Whole → result ≡ true }
+    {
+        match self {
+            Sweep::First => rel.count() <= FEW,
+            Sweep::Whole => true,
+        }
+    }
+}
+
+/// Narrows the pairs of `i` with greater nodes along `j`, if that is another node and the sweep goes along it.
+#[inline(always)]
+fn sweep_along<C: Compose, const P: usize>(
+    work: &mut PairSets,
+    tables: &mut Tables,
+    c: &C,
+    i: u32,
+    j: u32,
+    sweep: Sweep,
+) -> Result<(), Emptied>
+    requires ready { IsReady (C.algebra c.now) P work.old }
+    requires first { i < work.old.nodes }
+    requires second { j < work.old.nodes }
+    requires tables { AreBaseTables (C.algebra c.now) P tables.old.bases }
+    ensures step { IsStep (C.algebra c.now) work.old work.new }
+    ensures settled { OnOk result (sweep ≡ Sweep.Whole → (k : ℕ) → i < k → IsProperTriple work.old.nodes i j k →
+        IsSettledAt (C.algebra c.now) work.new i j k) }
+    ensures tables { tables.new.bases ≡ tables.old.bases }
+{
+    let nodes = work.nodes();
+    if i == j || !sweep.goes_along(work.set(i, j)) {
+        return Ok(());
+    }
+    let greater = Span {
+        first: i + 1,
+        end: nodes,
+    };
+    propagate_span::<C, P>(work, tables, c, greater, i, j)
+}
+
+/// Narrows the pairs of `i` with greater nodes along the third nodes of a sweep.
+pub fn sweep_row<C: Compose, const P: usize>(
+    work: &mut PairSets,
+    tables: &mut Tables,
+    c: &C,
+    i: u32,
+    sweep: Sweep,
+) -> Result<(), Emptied>
+    requires ready { IsReady (C.algebra c.now) P work.old }
+    requires below { i < work.old.nodes }
+    requires tables { AreBaseTables (C.algebra c.now) P tables.old.bases }
+    ensures step { IsStep (C.algebra c.now) work.old work.new }
+    ensures settled { OnOk result (sweep ≡ Sweep.Whole → IsRowSettled (C.algebra c.now) work.new i) }
+    ensures tables { tables.new.bases ≡ tables.old.bases }
+{
+    let nodes = work.nodes();
+    for j in 0..nodes {
+        sweep_along::<C, P>(work, tables, c, i, j, sweep)?;
+    }
+    Ok(())
+}

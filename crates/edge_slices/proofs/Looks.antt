@@ -1,0 +1,100 @@
+-- What passes have seen after looking at some edges.
+use Rattle.std.proofs.Common.{◌≡◌, ◌≢◌, ◌↔◌, ℕ, ◌+◌, ◌<◌, Bool, false, ◌||◌, List, length, refl, sym, ◌∙◌, ap, subst, arith, inl, inr}
+use Rattle.std.specs.Prelude.{IsTrue, slice_index, slice_set, bit_and}
+use Rattle.std.proofs.lemmas.Bool.{cases_eq, or_cases, or_parts, false≢true}
+use Rattle.std.proofs.lemmas.List.{length-set}
+use Rattle.std.proofs.lemmas.Grind.{same_number_lists}
+use Rattle.calculus_table.specs.Algebra.{Algebra}
+use Rattle.calculus_table.specs.Composition.{composition}
+use Rattle.network_words.specs.Edge.{edge_at, edge_between}
+use Rattle.network_words.specs.Network.{Refines, oriented}
+use Rattle.network_words.proofs.Edges.{edge_between-forward}
+use Rattle.network_words.proofs.Networks.{Refines-refl, Refines-trans, relation_between-forward, set-cases}
+use Rattle.network_words.proofs.Refinements.{sum-refines, sum-smaller}
+use Rattle.narrow_core.proofs.Sights.{seen-within}
+use Rattle.edge_table.specs.Opening.{PassState}
+use Rattle.edge_table.specs.Passes.{ReadsAll, Narrows, seen_between}
+use Rattle.edge_slices.specs.Slices.{Looks}
+
+pub ReadsAll-refl : (p : PassState) → ReadsAll p p
+ReadsAll-refl p = record { rest = refl; length_is = refl; within = Refines-refl p.actor.seen }
+
+pub ReadsAll-trans : (a b c : PassState) → ReadsAll a b → ReadsAll b c → ReadsAll a c
+ReadsAll-trans a b c h k =
+    let F : PassState → PassState = λ p. record p { actor = record p.actor { seen = c.actor.seen } } in
+    record {
+      rest = k.rest ∙ ap F h.rest;
+      length_is = k.length_is ∙ h.length_is;
+      within = Refines-trans c.actor.seen b.actor.seen a.actor.seen k.within h.within;
+    }
+
+-- ---- looking on
+
+pub Looks-none : (P : List ℕ → Type 0) (p : PassState) → P p.actor.seen → Looks P p p false
+Looks-none P p h = record { reads = ReadsAll-refl p; smaller = λ none. absurd (false≢true none); done = λ _. (refl, h) }
+
+pub Looks-then : (P Q R : List ℕ → Type 0) (a b c : PassState) (x y : Bool) → Looks P a b x → Looks Q b c y → ((words : List ℕ) → P words → Q words → R words) → Looks R a c (x || y)
+Looks-then P Q R a b c x y h k both = record {
+  reads = ReadsAll-trans a b c h.reads k.reads;
+  smaller = λ t. elim (or_cases x y t) [
+    | inl u ↦ (let first = h.smaller u in let second = sum-refines c.actor.seen b.actor.seen k.reads.length_is k.reads.within in omega arith)
+    | inr u ↦ (let first = sum-refines b.actor.seen a.actor.seen h.reads.length_is h.reads.within in let second = k.smaller u in omega arith)
+  ];
+  done = λ f.
+      let first = h.done (or_parts x y f).0 in
+      let second = k.done (or_parts x y f).1 in
+      (second.0 ∙ first.0, both c.actor.seen (subst (λ (p : PassState). P p.actor.seen) (sym second.0) first.1) second.1);
+}
+
+pub Looks-weaken : (P Q : List ℕ → Type 0) (a b : PassState) (x : Bool) → Looks P a b x → ((words : List ℕ) → P words → Q words) → Looks Q a b x
+Looks-weaken P Q a b x h f = record { reads = h.reads; smaller = h.smaller; done = λ e. ((h.done e).0, f b.actor.seen (h.done e).1) }
+
+-- ---- one narrowing
+
+same-set : (xs : List ℕ) (e v : ℕ) → slice_index (slice_set xs e v) e ≡ slice_index xs e → slice_set xs e v ≡ xs
+same-set xs e v h = same_number_lists (slice_set xs e v) xs (length-set xs e v) (λ k _. elim (set-cases xs e v k) [
+  | inl s ↦ s
+  | inr t ↦ rw t.0 h
+])
+
+pub Looks-narrow : (P : List ℕ → Type 0) (m : Algebra) (i j k : ℕ) (old new : PassState) (less : Bool) → i < k → Narrows m i j k old new →
+    IsTrue less ↔ (seen_between m new i k ≢ seen_between m old i k) → P new.actor.seen → Looks P old new less
+Looks-narrow P m i j k old new less o r changed p =
+    let e = edge_between old.nodes i k in
+    let v = bit_and (slice_index old.actor.seen e) (bit_and r.word (oriented m i k (composition m (seen_between m old i j) (seen_between m old j k)))) in
+    let seen : new.actor.seen ≡ slice_set old.actor.seen e v = ap (λ (q : PassState). q.actor.seen) r.after in
+    let nodes : new.nodes ≡ old.nodes = ap (λ (q : PassState). q.nodes) r.after in
+    let l : length new.actor.seen ≡ length old.actor.seen = ap length seen ∙ length-set old.actor.seen e v in
+    let w : Refines new.actor.seen old.actor.seen = subst (λ (ws : List ℕ). Refines ws old.actor.seen) (sym seen) (seen-within old.actor.seen e _) in
+    let rest : new ≡ record old { actor = record old.actor { seen = new.actor.seen } } =
+    r.after ∙ ap (λ (ws : List ℕ). let q : PassState = record old { actor = record old.actor { seen = ws } } in q) (sym seen) in
+    let was : seen_between m old i k ≡ slice_index old.actor.seen (edge_at old.nodes i k) = relation_between-forward m old.nodes old.actor.seen i k o in
+    let now : seen_between m new i k ≡ slice_index new.actor.seen (edge_at old.nodes i k) =
+    relation_between-forward m new.nodes new.actor.seen i k o ∙ ap (λ n. slice_index new.actor.seen (edge_at n i k)) nodes in
+    let edge : e ≡ edge_at old.nodes i k = edge_between-forward old.nodes i k o in
+    record {
+      reads = record { rest = rest; length_is = l; within = w };
+      smaller = λ t. sum-smaller new.actor.seen old.actor.seen l w (λ same. changed.0 t (now ∙ ap (λ (ws : List ℕ). slice_index ws (edge_at old.nodes i k)) same ∙ sym was));
+      done = λ f. elim (cases_eq (seen_between m new i k) (seen_between m old i k)) [
+        | inl same ↦
+            (let here : slice_index (slice_set old.actor.seen e v) e ≡ slice_index old.actor.seen e =
+            rw edge (ap (λ (ws : List ℕ). slice_index ws (edge_at old.nodes i k)) (sym (rw edge at seen)) ∙ sym now ∙ same ∙ was) in
+            let all : new.actor.seen ≡ old.actor.seen = seen ∙ same-set old.actor.seen e v here in
+            (rest ∙ ap (λ (ws : List ℕ). let q : PassState = record old { actor = record old.actor { seen = ws } } in q) all, p))
+        | inr differ ↦ absurd (false≢true (sym f ∙ changed.1 differ))
+      ];
+    }
+
+-- ---- each of some numbers in turn
+
+pub below-more : (P : ℕ → Type 0) (j : ℕ) → ((k : ℕ) → k < j → P k) → P j → (k : ℕ) → k < j + 1 → P k
+below-more P j h p k b = elim (cases_eq k j) [
+  | inl e ↦ subst P (sym e) p
+  | inr d ↦ h k (omega arith)
+]
+
+pub between-more : (P : ℕ → Type 0) (i j : ℕ) → ((k : ℕ) → i < k → k < j → P k) → P j → (k : ℕ) → i < k → k < j + 1 → P k
+between-more P i j h p k a b = elim (cases_eq k j) [
+  | inl e ↦ subst P (sym e) p
+  | inr d ↦ h k a (omega arith)
+]

@@ -1,0 +1,418 @@
+//! A slice of the edges, closed on a copy of what the pass has seen.
+//!
+//! Where most edges are stated the copy sweeps the rows of the slice first; else it queues those edges. Then it closes
+//! the slice by propagation, as a network is closed on one thread, and notes each triple along which it made a set
+//! smaller. The pass narrows the words of the table along these triples in the same order, so that it
+//! has then seen what the copy has, or less where others narrowed. When the copy has nothing left to look at, the
+//! pass reads every word again. Where that brings nothing new, and the words are the copy's sets, the slice is closed;
+//! else the copy takes over what became less, and looks only at the triples of these edges.
+//!
+//! Others narrow at once. So the words are read after some edges too, since an edge that another has made smaller is
+//! then looked at once and not twice; and they are read twice before a slice ends, since one that ends too early costs
+//! a round. The copy is kept for that round, and takes over what became less meanwhile.
+//!
+//! The copy and its notes only propose. If the comparison fails, and the copy has nothing to take over, the answer is
+//! that nothing is known. Each other turn takes an edge off the copy's queue, or the pass has seen less, so that there
+//! are few turns; but that isn't proved, and a bound on their number makes sure that they end.
+
+ghost use Rattle.std.specs.Prelude.{◌≡◌, ◌≢◌, ◌<◌, ◌≤◌, true, length, IfSome};
+ghost use Rattle.network_words.specs.Edge.{edge_count};
+ghost use Rattle.network_words.specs.Network.{IsNetwork};
+ghost use Rattle.network_words.specs.Closure.{IsRangeClosed};
+ghost use Rattle.edge_table.specs.Opening.{IsPassOf, algebra_of};
+ghost use Rattle.edge_table.specs.Passes.{ReadsAll};
+ghost use Rattle.closure_seq.specs.Copies.{IsOpenCopy, IsSettledCopy};
+ghost use Rattle.edge_slices.specs.Slices.{HasClash, IsSliceClosed, IsHeld, IsBegun};
+
+use crate::slices::{is_clash, narrow_along};
+use calculus_table::{Compose, Rel};
+use closure_seq::{Note, SliceCopy, Sweep};
+use edge_table::{OpenNet, Pass, Snapshot};
+
+/// The most turns that are taken on a copy.
+const TURNS: u32 = 1_000_000;
+
+/// What a turn on a copy came to.
+#[derive(Clone, Copy, Debug, PartialEq, Eq)]
+enum Turn {
+    /// The slice is closed.
+    Closed,
+    /// Some set is empty.
+    Clash,
+    /// There may be more to look at.
+    More,
+    /// None of these is known.
+    Unknown,
+}
+
+/// Narrows along the triple of a note, if it is one.
+fn narrow_note<C: Compose>(table: &OpenNet, pass: &mut Pass, c: &C, snap: &mut Snapshot, note: Note)
+    requires pass { IsPassOf table.now pass.old }
+    requires calculus { C.algebra c.now ≡ algebra_of table.now.opening }
+    requires snap { snap.old ≡ pass.old.actor.seen }
+    ensures pass { IsPassOf table.now pass.new }
+    ensures snap { snap.new ≡ pass.new.actor.seen }
+    ensures reads { ReadsAll pass.old pass.new }
+{
+    let nodes = table.nodes();
+    let i = u32::from(note.i.min(note.k));
+    let j = u32::from(note.j);
+    let k = u32::from(note.i.max(note.k));
+    if i >= k || k >= nodes || j >= nodes {
+        return;
+    }
+    narrow_along(table, pass, c, snap, i, j, k);
+}
+
+/// Narrows along the triples of the notes, one after another.
+fn narrow_noted<C: Compose>(
+    table: &OpenNet,
+    pass: &mut Pass,
+    c: &C,
+    snap: &mut Snapshot,
+    notes: &[Note],
+)
+    requires pass { IsPassOf table.now pass.old }
+    requires calculus { C.algebra c.now ≡ algebra_of table.now.opening }
+    requires snap { snap.old ≡ pass.old.actor.seen }
+    ensures pass { IsPassOf table.now pass.new }
+    ensures snap { snap.new ≡ pass.new.actor.seen }
+    ensures reads { ReadsAll pass.old pass.new }
+{
+    for note in notes {
+        narrow_note(table, pass, c, snap, *note);
+    }
+}
+
+/// Narrows the words as the copy was narrowed since its notes were forgotten, and forgets them.
+fn follow<C: Compose>(
+    table: &OpenNet,
+    pass: &mut Pass,
+    c: &C,
+    snap: &mut Snapshot,
+    copy: &mut SliceCopy,
+)
+    requires pass { IsPassOf table.now pass.old }
+    requires calculus { C.algebra c.now ≡ algebra_of table.now.opening }
+    requires snap { snap.old ≡ pass.old.actor.seen }
+    ensures pass { IsPassOf table.now pass.new }
+    ensures snap { snap.new ≡ pass.new.actor.seen }
+    ensures reads { ReadsAll pass.old pass.new }
+    ensures copy { copy.new ≡ copy.old }
+{
+    narrow_noted(table, pass, c, snap, copy.notes());
+    copy.forget_notes();
+}
+
+/// Sweeps the rows of the slice on the copy, and narrows the words as it did after each row. Returns whether no set of
+/// the copy became empty.
+fn sweep_rows<C: Compose>(
+    table: &OpenNet,
+    pass: &mut Pass,
+    c: &C,
+    snap: &mut Snapshot,
+    copy: &mut SliceCopy,
+    sweep: Sweep,
+) -> bool
+    requires pass { IsPassOf table.now pass.old }
+    requires calculus { C.algebra c.now ≡ algebra_of table.now.opening }
+    requires snap { snap.old ≡ pass.old.actor.seen }
+    requires is_open { IsOpenCopy (C.algebra c.now) copy.old }
+    ensures pass { IsPassOf table.now pass.new }
+    ensures reads { ReadsAll pass.old pass.new }
+    ensures snap { snap.new ≡ pass.new.actor.seen }
+    ensures is_open { IsOpenCopy (C.algebra c.now) copy.new }
+    ensures settled { result ≡ true → sweep ≡ Sweep.Whole → IsSettledCopy (C.algebra c.now) copy.new }
+    ensures slice { copy.new.slice ≡ copy.old.slice }
+{
+    copy.forget_queue();
+    let (first, end) = copy.rows();
+    for i in first..end {
+        let going_on = copy.sweep_row(c, i, sweep);
+        follow(table, pass, c, snap, copy);
+        if !going_on {
+            return false;
+        }
+    }
+    true
+}
+
+/// Sweeps the slice: along the sets of few base relations, which restrict most, and then along all, with what others
+/// made less meanwhile. Returns whether no set of the copy became empty.
+fn sweep_slice<C: Compose>(
+    table: &OpenNet,
+    pass: &mut Pass,
+    c: &C,
+    snap: &mut Snapshot,
+    copy: &mut SliceCopy,
+    times: u32,
+) -> bool
+    requires pass { IsPassOf table.now pass.old }
+    requires calculus { C.algebra c.now ≡ algebra_of table.now.opening }
+    requires snap { snap.old ≡ pass.old.actor.seen }
+    requires length_is { length snap.old ≡ edge_count table.now.opening.nodes }
+    requires is_open { IsOpenCopy (C.algebra c.now) copy.old }
+    requires nodes { copy.old.slice.nodes ≡ table.now.opening.nodes }
+    ensures pass { IsPassOf table.now pass.new }
+    ensures reads { ReadsAll pass.old pass.new }
+    ensures snap { snap.new ≡ pass.new.actor.seen }
+    ensures is_open { IsOpenCopy (C.algebra c.now) copy.new }
+    ensures settled { result ≡ true → IsSettledCopy (C.algebra c.now) copy.new }
+    ensures slice { copy.new.slice ≡ copy.old.slice }
+{
+    if !sweep_rows(table, pass, c, snap, copy, Sweep::First) {
+        return false;
+    }
+    if times > 0 && table.refresh_again(pass, snap) {
+        copy.catch_up(c, snap.words());
+    }
+    sweep_rows(table, pass, c, snap, copy, Sweep::Whole)
+}
+
+/// What a set of the copy that became empty comes to.
+fn after_empty(nodes: u32, words: &[u64]) -> Turn
+    ensures clash { result ≡ Turn.Clash → HasClash nodes words.now }
+    ensures not_closed { result ≢ Turn.Closed }
+    ensures unknown { result ≢ Turn.Clash → result ≡ Turn.Unknown }
+{
+    if is_clash(nodes, words) {
+        Turn::Clash
+    } else {
+        Turn::Unknown
+    }
+}
+
+/// Reads every word again, up to so many times until the pass has seen less. Returns whether it has.
+fn read_again(table: &OpenNet, pass: &mut Pass, snap: &mut Snapshot, times: u32) -> bool
+    requires pass { IsPassOf table.now pass.old }
+    requires snap { snap.old ≡ pass.old.actor.seen }
+    requires length_is { length snap.old ≡ edge_count table.now.opening.nodes }
+    ensures pass { IsPassOf table.now pass.new }
+    ensures snap { snap.new ≡ pass.new.actor.seen }
+    ensures length_is { length snap.new ≡ edge_count table.now.opening.nodes }
+    ensures reads { ReadsAll pass.old pass.new }
+{
+    for _time in 0..times {
+        if table.refresh_again(pass, snap) {
+            return true;
+        }
+    }
+    false
+}
+
+/// Closes the slice on the copy, narrows the words as it did, and reads every word again if the copy has nothing left
+/// to look at, or among others if it has looked at many edges since.
+fn take_turn<C: Compose>(
+    table: &OpenNet,
+    pass: &mut Pass,
+    c: &C,
+    snap: &mut Snapshot,
+    copy: &mut SliceCopy,
+    times: u32,
+) -> Turn
+    requires pass { IsPassOf table.now pass.old }
+    requires calculus { C.algebra c.now ≡ algebra_of table.now.opening }
+    requires snap { snap.old ≡ pass.old.actor.seen }
+    requires length_is { length snap.old ≡ edge_count table.now.opening.nodes }
+    requires settled { IsSettledCopy (C.algebra c.now) copy.old }
+    requires nodes { copy.old.slice.nodes ≡ table.now.opening.nodes }
+    ensures pass { IsPassOf table.now pass.new }
+    ensures reads { ReadsAll pass.old pass.new }
+    ensures snap { snap.new ≡ pass.new.actor.seen }
+    ensures length_is { length snap.new ≡ edge_count table.now.opening.nodes }
+    ensures closed { result ≡ Turn.Closed → IsRangeClosed (C.algebra c.now) table.now.opening.nodes snap.new
+        copy.old.slice.from copy.old.slice.to }
+    ensures clash { result ≡ Turn.Clash → HasClash table.now.opening.nodes snap.new }
+    ensures settled { result ≢ Turn.Clash → result ≢ Turn.Unknown → IsSettledCopy (C.algebra c.now) copy.new }
+    ensures slice { copy.new.slice ≡ copy.old.slice }
+{
+    let settled = copy.close_rows(c);
+    follow(table, pass, c, snap, copy);
+    if !settled {
+        return after_empty(table.nodes(), snap.words());
+    }
+    let idle = copy.is_idle();
+    if !idle && (times < 2 || !copy.is_due()) {
+        return Turn::More;
+    }
+    let brought = read_again(table, pass, snap, if idle { times } else { 1 });
+    if !brought && copy.matches(c, snap.words()) {
+        return Turn::Closed;
+    }
+    copy.catch_up(c, snap.words());
+    if !brought && copy.is_idle() {
+        return Turn::Unknown;
+    }
+    Turn::More
+}
+
+/// Takes turns until one tells that the slice is closed or that nothing is known, or there were too many.
+fn take_turns<C: Compose>(
+    table: &OpenNet,
+    pass: &mut Pass,
+    c: &C,
+    snap: &mut Snapshot,
+    copy: &mut SliceCopy,
+    times: u32,
+) -> Turn
+    requires pass { IsPassOf table.now pass.old }
+    requires calculus { C.algebra c.now ≡ algebra_of table.now.opening }
+    requires snap { snap.old ≡ pass.old.actor.seen }
+    requires length_is { length snap.old ≡ edge_count table.now.opening.nodes }
+    requires settled { IsSettledCopy (C.algebra c.now) copy.old }
+    requires nodes { copy.old.slice.nodes ≡ table.now.opening.nodes }
+    ensures pass { IsPassOf table.now pass.new }
+    ensures reads { ReadsAll pass.old pass.new }
+    ensures snap { snap.new ≡ pass.new.actor.seen }
+    ensures closed { result ≡ Turn.Closed → IsRangeClosed (C.algebra c.now) table.now.opening.nodes snap.new
+        copy.old.slice.from copy.old.slice.to }
+    ensures clash { result ≡ Turn.Clash → HasClash table.now.opening.nodes snap.new }
+    ensures settled { result ≡ Turn.Closed → IsSettledCopy (C.algebra c.now) copy.new }
+{
+    for _turn in 0..TURNS {
+        let turn = take_turn(table, pass, c, snap, copy, times);
+        if turn != Turn::More {
+            return turn;
+        }
+    }
+    Turn::Unknown
+}
+
+/// Whether most of these sets are less than `full`.
+fn is_dense(words: &[u64], full: Rel) -> bool {
+    let full = full.word();
+    let mut lesser: usize = 0;
+    for word in words {
+        if *word != full {
+            lesser = lesser.wrapping_add(1);
+        }
+    }
+    lesser > words.len() / 2
+}
+
+/// Takes the words over into the copy, for the slice. Where most edges are stated the slice is then to be swept; else
+/// the edges whose set isn't full are queued, so that the copy is settled. Returns whether it is.
+fn begin_copy<C: Compose>(c: &C, words: &[u64], copy: &mut SliceCopy, from: u32, to: u32) -> bool
+    requires network { IsNetwork (C.algebra c.now) copy.old.slice.nodes words.now }
+    requires below { to ≤ edge_count copy.old.slice.nodes }
+    ensures is_open { IsOpenCopy (C.algebra c.now) copy.new }
+    ensures settled { result ≡ true → IsSettledCopy (C.algebra c.now) copy.new }
+    ensures slice { copy.new.slice ≡ record { nodes = copy.old.slice.nodes; from = from; to = to } }
+{
+    if is_dense(words, c.full()) {
+        copy.take_over(c, words, from, to);
+        return false;
+    }
+    copy.begin(c, words, from, to);
+    true
+}
+
+/// A copy of the snapshot for the slice, and whether it is settled: the one that is held, with what became less since
+/// if it is for the slice; else the one that the snapshot has room for.
+fn begun<C: Compose>(
+    c: &C,
+    snap: &mut Snapshot,
+    held: &mut Option<SliceCopy>,
+    nodes: u32,
+    from: u32,
+    to: u32,
+) -> Option<(SliceCopy, bool)>
+    requires network { IsNetwork (C.algebra c.now) nodes snap.old }
+    requires held { IsHeld (C.algebra c.now) held.old }
+    requires below { to ≤ edge_count nodes }
+    ensures snap { snap.new ≡ snap.old }
+    ensures held { IsHeld (C.algebra c.now) held.new }
+    ensures begun { IfSome result (λ r. IsBegun (C.algebra c.now) nodes from to r.0 r.1) }
+{
+    if let Some(mut copy) = held.take()
+        && copy.nodes() == nodes
+    {
+        if copy.is_for(from, to) {
+            copy.catch_up(c, snap.words());
+            return Some((copy, true));
+        }
+        let is_settled = begin_copy(c, snap.words(), &mut copy, from, to);
+        return Some((copy, is_settled));
+    }
+    let mut copy = snap.take_copy()?;
+    if copy.nodes() != nodes {
+        return None;
+    }
+    let is_settled = begin_copy(c, snap.words(), &mut copy, from, to);
+    Some((copy, is_settled))
+}
+
+/// Closes the slice of a copy, which is swept first if it isn't settled.
+fn close_copy<C: Compose>(
+    table: &OpenNet,
+    pass: &mut Pass,
+    c: &C,
+    snap: &mut Snapshot,
+    copy: &mut SliceCopy,
+    is_settled: bool,
+    times: u32,
+) -> Turn
+    requires pass { IsPassOf table.now pass.old }
+    requires calculus { C.algebra c.now ≡ algebra_of table.now.opening }
+    requires snap { snap.old ≡ pass.old.actor.seen }
+    requires length_is { length snap.old ≡ edge_count table.now.opening.nodes }
+    requires is_open { IsOpenCopy (C.algebra c.now) copy.old }
+    requires settled { is_settled ≡ true → IsSettledCopy (C.algebra c.now) copy.old }
+    requires nodes { copy.old.slice.nodes ≡ table.now.opening.nodes }
+    ensures pass { IsPassOf table.now pass.new }
+    ensures reads { ReadsAll pass.old pass.new }
+    ensures snap { snap.new ≡ pass.new.actor.seen }
+    ensures closed { result ≡ Turn.Closed → IsRangeClosed (C.algebra c.now) table.now.opening.nodes snap.new
+        copy.old.slice.from copy.old.slice.to }
+    ensures clash { result ≡ Turn.Clash → HasClash table.now.opening.nodes snap.new }
+    ensures settled { result ≡ Turn.Closed → IsSettledCopy (C.algebra c.now) copy.new }
+{
+    if !is_settled && !sweep_slice(table, pass, c, snap, copy, times) {
+        return after_empty(table.nodes(), snap.words());
+    }
+    take_turns(table, pass, c, snap, copy, times)
+}
+
+/// Closes the slice on a copy, and holds the copy if that tells that the slice is closed. Returns whether the slice is
+/// closed or some set empty; else nothing is known.
+pub(crate) fn close_on_copy<C: Compose>(
+    table: &OpenNet,
+    pass: &mut Pass,
+    c: &C,
+    snap: &mut Snapshot,
+    held: &mut Option<SliceCopy>,
+    from: u32,
+    to: u32,
+    times: u32,
+) -> bool
+    requires pass { IsPassOf table.now pass.old }
+    requires calculus { C.algebra c.now ≡ algebra_of table.now.opening }
+    requires snap { snap.old ≡ pass.old.actor.seen }
+    requires network { IsNetwork (C.algebra c.now) table.now.opening.nodes snap.old }
+    requires held { IsHeld (C.algebra c.now) held.old }
+    requires below { to ≤ edge_count table.now.opening.nodes }
+    ensures pass { IsPassOf table.now pass.new }
+    ensures reads { ReadsAll pass.old pass.new }
+    ensures snap { snap.new ≡ pass.new.actor.seen }
+    ensures held { IsHeld (C.algebra c.now) held.new }
+    ensures closed { result ≡ true →
+        IsSliceClosed (C.algebra c.now) table.now.opening.nodes snap.new from to }
+{
+    let Some((mut copy, is_settled)) = begun(c, snap, held, table.nodes(), from, to) else {
+        return false;
+    };
+    match close_copy(table, pass, c, snap, &mut copy, is_settled, times) {
+        Turn::Closed => {
+            *held = Some(copy);
+            true
+        }
+        Turn::Clash => {
+            snap.put_copy(copy);
+            true
+        }
+        Turn::More | Turn::Unknown => {
+            snap.put_copy(copy);
+            false
+        }
+    }
+}

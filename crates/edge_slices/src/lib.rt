@@ -1,0 +1,11 @@
+//! The edges of a slice of a table that others narrow too, closed by one pass.
+//!
+//! ```text
+//! close_slice(&table, &mut pass, &c, from, to, &mut snap);     // what the pass has seen is closed at each edge of the slice
+//! ```
+#![tactic(auto)]
+
+mod copies;
+mod slices;
+
+pub use slices::{close_slice, close_slice_with, is_clash};

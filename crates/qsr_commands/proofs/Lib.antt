@@ -1,0 +1,6 @@
+pub mod CommandAnswers
+pub mod Working
+pub mod Answering
+pub mod ScriptsSoFar
+pub mod AnsweredSoFar
+pub mod ServingRuns

@@ -1,0 +1,32 @@
+use Rattle.std.proofs.Common.{refl}
+use Rattle.std.proofs.lemmas.Result.{err_from_is_err_and}
+use Rattle.qsr_words.specs.Asked.{close}
+use Rattle.qsr_words.specs.Requests.{close_of}
+use Rattle.qsr_commands.proofs.CommandAnswers.{given_stopped, read_stopped, read_answered, read_memory}
+use Rattle.qsr_commands.proofs.commands.close_answer.Goals as goal
+
+pub returns-in_err-calculus : goal.returns-in_err-calculus
+returns-in_err-calculus g c =
+    let p = err_from_is_err_and c.from_residual.result c.from_residual.ensures.1 in
+    rw (p.1, p.2) (given_stopped g.F.Source.documents g.F.Source.faults g.F.Source.given g.F.Source.absent_openings g.S.Source.left g.S.Source.faults g.S.Source.given
+    (close (close_of c.args.request.now)) refl c.args.shelf.now c.calculus.new.shelf c.args.source.now c.in_err-calculus.field-0.0
+    (rw c.as_str.ensures.value at c.in_err-calculus.ensures))
+
+pub returns-in_err-net : goal.returns-in_err-net
+returns-in_err-net g c =
+    let p = err_from_is_err_and c.from_residual-in_err-net.result c.from_residual-in_err-net.ensures.1 in
+    rw (p.1, p.2) (read_stopped g.F.Source.documents g.F.Source.faults g.F.Source.given g.F.Source.absent_openings g.S.Source.left g.S.Source.faults g.S.Source.given
+    (close (close_of c.args.request.now)) refl c.args.shelf.now c.calculus.new.shelf c.args.source.now c.network.new.source c.in_ok-calculus.calculus
+    (rw c.as_str.ensures.value at c.in_ok-calculus.ensures) c.in_err-net.field-0.0 c.in_err-net.ensures.source)
+
+pub returns-in-Ok : goal.returns-in-Ok
+returns-in-Ok g c =
+    read_answered g.F.Source.documents g.F.Source.faults g.F.Source.given g.F.Source.absent_openings g.S.Source.left g.S.Source.faults g.S.Source.given
+    (close (close_of c.args.request.now)) refl c.args.shelf.now c.calculus.new.shelf c.args.source.now c.network.new.source c.in_ok-calculus.calculus
+    (rw c.as_str.ensures.value at c.in_ok-calculus.ensures) c.in_ok-net.net c.in_ok-net.ensures.source refl c.in-Ok.answer c.in-Ok.ensures
+
+pub returns : goal.returns
+returns g c =
+    read_memory g.F.Source.documents g.F.Source.faults g.F.Source.given g.F.Source.absent_openings g.S.Source.left g.S.Source.faults g.S.Source.given
+    (close (close_of c.args.request.now)) refl c.args.shelf.now c.calculus.new.shelf c.args.source.now c.network.new.source c.in_ok-calculus.calculus
+    (rw c.as_str.ensures.value at c.in_ok-calculus.ensures) c.in_ok-net.net c.in_ok-net.ensures.source

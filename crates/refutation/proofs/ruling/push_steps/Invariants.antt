@@ -1,6 +1,0 @@
-use Rattle.std.proofs.Common.{◌≡◌, ◌++◌}
-use Rattle.refutation.specs.RuledSteps.{steps_below, steps_along}
-use Rattle.refutation.proofs.ruling.push_steps.Given as goal
-
-abbrev pub invariant-loop-j : goal.invariant-loop-j
-invariant-loop-j l = l.steps.items ≡ l.initial.steps.items ++ steps_below (steps_along l.i l.k) l.j

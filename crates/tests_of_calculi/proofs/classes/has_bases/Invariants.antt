@@ -1,6 +1,0 @@
-use Rattle.std.proofs.Common.{ℕ, ◌<◌}
-use Rattle.tract_classes.specs.Class.{HasBase}
-use Rattle.tests_of_calculi.proofs.classes.has_bases.Given as goal
-
-abbrev pub invariant-loop-r : goal.invariant-loop-r
-invariant-loop-r l = (q : ℕ) → q < l.r → HasBase l.class q

@@ -1,6 +1,0 @@
-use Rattle.std.proofs.Common.{◌≡◌}
-use Rattle.edge_table.specs.Opening.{IsPassOf}
-use Rattle.tests_of_closures.proofs.edge_words.narrow_all_from.Given as goal
-
-abbrev pub invariant-loop-j : goal.invariant-loop-j
-invariant-loop-j l = record { pass : IsPassOf l.table l.pass; weight : l.pass.actor.weight ≡ l.fn.pass.actor.weight }

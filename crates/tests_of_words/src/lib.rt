@@ -1,0 +1,8 @@
+//! Tests of the words of the command line.
+
+#![tactic(auto)]
+
+#[cfg(test)]
+mod asserts;
+#[cfg(test)]
+mod commands;
