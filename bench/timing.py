@@ -16,12 +16,25 @@ def timed(command, path, turns):
     return statistics.median(times) * 1000, done.stdout, done.returncode
 
 
+def crates_below(depends):
+    """The crates that these stand on, and they themselves, as crates.txt has them."""
+    with open(os.path.join(TOP, "crates.txt")) as file:
+        listed = dict(line.split(":", 1) for line in file if ":" in line)
+    found, left = set(), depends.split()
+    while left:
+        crate = left.pop()
+        if crate not in found:
+            found.add(crate)
+            left += listed.get(crate, "").split()
+    return found
+
+
 def build_program(folder, name, depends, files):
     """Proves and builds a program of these files over copies of the crates, in the folder; returns its path. What checks kept of the crates that it
-    depends on is copied as well, so that it isn't done again."""
-    crates = os.path.join(folder, "crates")
+    stands on is copied as well, so that it isn't done again."""
+    crates, below = os.path.join(folder, "crates"), crates_below(depends)
     for crate in os.listdir(os.path.join(TOP, "crates")):
-        left_out = ["must-fail"] if crate in depends.split() else ["must-fail", "out"]
+        left_out = ["must-fail"] if crate in below else ["must-fail", "out"]
         shutil.copytree(os.path.join(TOP, "crates", crate), os.path.join(crates, crate), ignore=shutil.ignore_patterns(*left_out))
     shutil.copy(os.path.join(TOP, "HANDLES"), folder)
     with open(os.path.join(TOP, "crates.txt")) as file:

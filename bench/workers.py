@@ -5,13 +5,14 @@ Usage: bench/workers.py [NODES ..]      (default: 3 20 64 128 256)
 
 The library has no program of its own, so this writes a small one into a folder for temporary files, with copies of the crates, and has it
 proved and built there, which takes as long as proving those crates does where no check was kept. The program reads a network of regions or of intervals
-and closes it by `closure_seq`, by one worker and by four, five times. All have to end with the same sets. Prints one line for each network: the median
-microseconds of each, and the ratios of one worker to one thread and of four workers to one.
+and closes it by `closure_seq`, by one worker and by four, 41 times. All have to end with the same sets. Prints one line for each network: the median
+microseconds of each, the ratio of one worker to one thread, and the quartiles of that of four workers to one. Before that it prints how much slower a
+thread of a loop without memory runs where four run at once (`processors.cpp`, built with g++ -O2), which says what can be had of four processors here.
 """
-import random, statistics, subprocess, sys, tempfile
+import os, random, statistics, subprocess, sys, tempfile
 
 from closure import chain, random_network
-from timing import build_program
+from timing import TOP, build_program
 
 INTERVALS = "b bi m mi o oi s si d di f fi eq".split()
 DEPENDS = (
@@ -105,8 +106,15 @@ fn calculus(alloc: Global, bytes: &[u8]) -> Option<Calculus> {
     }
 }
 
+/// Has the allocator keep memory that is freed, as the reasoner's program does.
+fn keep_freed_memory(alloc: Global) {
+    let block: Result<Vec<u8>, _> = Vec::with_capacity(alloc, 16 << 20);
+    drop(block);
+}
+
 fn main(rt: HostRuntime) -> io::Result<()> {
     let alloc = rt.alloc();
+    keep_freed_memory(alloc);
     let mut bytes = Vec::new(alloc);
     rt.stdin().read_to_end(&mut bytes)?;
     let Some(c) = calculus(alloc, &bytes) else {
@@ -115,7 +123,7 @@ fn main(rt: HostRuntime) -> io::Result<()> {
     let Some((net, fast)) = made(alloc, &bytes, &c) else {
         return Ok(());
     };
-    for _ in 0..5 {
+    for _ in 0..41 {
         let (plain, by_one, by_four, same) = timed(&rt, alloc, &net, &fast)?;
         println!(rt; "{plain} {by_one} {by_four} {same}")?;
     }
@@ -152,7 +160,10 @@ def interval_network(nodes, degree, seed):
 def main():
     sizes = [int(word) for word in sys.argv[1:]] or [3, 20, 64, 128, 256]
     with tempfile.TemporaryDirectory() as folder:
-        program = build_program(folder, "worker_times", DEPENDS, {"src/main.rt": PROGRAM})
+        loops = os.path.join(folder, "processors")
+        subprocess.run(["g++", "-O2", "-std=c++17", "-pthread", "-o", loops, os.path.join(TOP, "bench/processors.cpp")], check=True)
+        program = build_program(os.path.join(folder, "program"), "worker_times", DEPENDS, {"src/main.rt": PROGRAM})
+        print(f"a thread among four takes {subprocess.run([loops], capture_output=True, text=True, check=True).stdout.strip()} of one alone")
         for nodes in sizes:
             kinds = (
                 ("chain", chain(nodes)),
@@ -167,8 +178,10 @@ def main():
                 if not rows or any(row[3] != "true" for row in rows):
                     sys.exit(f"{kind} of {nodes}: the sets differ")
                 plain, one, four = (statistics.median(int(row[column]) for row in rows) for column in range(3))
+                low, middle, high = statistics.quantiles((int(row[2]) / int(row[1]) for row in rows), n=4)
                 print(
-                    f"{kind}, {nodes} nodes: one thread {plain} us, one worker {one} ({one / plain:.2f}), four workers {four} ({four / one:.2f})",
+                    f"{kind}, {nodes} nodes: one thread {plain} us, one worker {one} ({one / plain:.2f}), "
+                    f"four workers {four} ({middle:.2f}, {low:.2f}..{high:.2f})",
                     flush=True,
                 )
 

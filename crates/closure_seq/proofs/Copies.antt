@@ -8,11 +8,10 @@ use Rattle.network_words.specs.Closure.{IsClosed, IsRangeClosed}
 use Rattle.network_words.proofs.Edges.{edge_at-order}
 use Rattle.network_words.proofs.Pairs.{pair-first, pair-second, pair-outer}
 use Rattle.compose_fast.specs.Planes.{AreBaseTables}
-use Rattle.edge_propagation.specs.declared.span.Span.{Span}
 use Rattle.edge_propagation.specs.Worklist.{Worklist, IsIdle, IsBegun}
 use Rattle.edge_propagation.specs.Propagation.{AreConverses, IsInStep, IsRefinement, IsReady, IsStep, IsSettled, IsRowSettled, IsStored}
 use Rattle.edge_propagation.specs.Propagation.{IsPlanes}
-use Rattle.closure_seq.specs.Copies.{CopyState, IsCopyOf, IsOpenCopy, IsSettledCopy, IsSweptCopy, AreRowsOf}
+use Rattle.closure_seq.specs.Copies.{Slice, CopyState, IsCopyOf, IsOpenCopy, IsSettledCopy, IsSweptCopy, AreRowsOf, TakesOver}
 use Rattle.edge_propagation.specs.Propagation.{IsMet}
 use Rattle.edge_propagation.proofs.Settled.{IsSettled-met, IsSettled-none, IsSettled-row, AreRowsClosed-idle}
 use Rattle.edge_propagation.proofs.Steps.{IsMet-step}
@@ -108,6 +107,34 @@ pub IsSettledCopy-met : (m : Algebra) (copy : CopyState) (work : Worklist) → I
 IsSettledCopy-met m copy work p s = record {
   is_open = IsOpenCopy-met m copy work copy.bases p (λ _. copy.bases) s.is_open;
   settled = IsSettled-met m copy.rows copy.work work p s.settled;
+}
+
+-- sets taken over from other edges
+pub TakesOver-met : (m : Algebra) (copy : CopyState) (work : Worklist) → IsMet m copy.work work → IsOpenCopy m copy →
+    TakesOver m copy (record copy { slice = record copy.slice { nodes = work.nodes }; work = work })
+TakesOver-met m copy work p s =
+    let nodes : work.nodes ≡ copy.slice.nodes = p.nodes ∙ s.nodes in
+    let F : ℕ → CopyState = λ n. record copy { slice = record copy.slice { nodes = n }; work = work } in
+    let met : IsOpenCopy m (record copy { work = work }) = IsOpenCopy-met m copy work copy.bases p (λ _. copy.bases) s in
+    record {
+      is_open = subst (λ n. IsOpenCopy m (F n)) (sym nodes) met;
+      settled = λ t. subst (λ n. IsSettledCopy m (F n)) (sym nodes) (IsSettledCopy-met m copy work p t);
+      swept = λ k t. subst (λ n. IsSweptCopy m (F n) k) (sym nodes)
+          (record { is_open = met; settled = IsSettled-met m (record { first = copy.rows.first; end = k }) copy.work work p t.settled });
+      slice = ap (λ n. let y : Slice = record copy.slice { nodes = n } in y) nodes;
+      rows = λ _. copy.rows;
+    }
+
+pub TakesOver-refl : (m : Algebra) (copy : CopyState) → IsOpenCopy m copy → TakesOver m copy copy
+TakesOver-refl m copy s = record { is_open = s; settled = λ t. t; swept = λ k t. t; slice = λ _. copy.slice; rows = λ _. copy.rows }
+
+pub TakesOver-trans : (m : Algebra) (a b c : CopyState) → TakesOver m a b → TakesOver m b c → TakesOver m a c
+TakesOver-trans m a b c h k = record {
+  is_open = k.is_open;
+  settled = λ t. k.settled (h.settled t);
+  swept = λ x t. k.swept x (h.swept x t);
+  slice = k.slice ∙ h.slice;
+  rows = k.rows ∙ h.rows;
 }
 
 -- another queue

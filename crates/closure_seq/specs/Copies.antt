@@ -1,12 +1,11 @@
 -- A copy of a network's sets, on which the edges of a slice are closed.
 use Rattle.std.specs.Prelude.{◌≡◌, ℕ, ◌*◌, ◌<◌, ◌≤◌, List}
-use Rattle.calculus_table.specs.Rel.{IsWithin}
 use Rattle.calculus_table.specs.Algebra.{Algebra}
 use Rattle.calculus_table.specs.Calculus.{IsCalculus}
-use Rattle.network_words.specs.Edge.{edge_at, IsProperPair}
+use Rattle.network_words.specs.Edge.{edge_at}
 use Rattle.network_words.specs.Network.{IsNetwork}
 use Rattle.compose_fast.specs.Planes.{AreBaseTables}
-use Rattle.edge_propagation.specs.Worklist.{Worklist, set_of, IsQueued}
+use Rattle.edge_propagation.specs.Worklist.{Worklist}
 use Rattle.edge_propagation.specs.Propagation.{AreConverses, IsInStep, IsAmong, IsSettled}
 use Rattle.edge_propagation.specs.Propagation.{IsPlanes}
 use Rattle.edge_propagation.specs.declared.span.Span.{Span}
@@ -60,3 +59,11 @@ pub record IsSettledCopy (m : Algebra) (copy : CopyState) : Type 0 where
 pub record IsSweptCopy (m : Algebra) (copy : CopyState) (k : ℕ) : Type 0 where
   pub is_open : IsOpenCopy m copy
   pub settled : IsSettled m (record { first = copy.rows.first; end = k }) copy.work
+
+-- the copy has taken over sets of other edges, and stays what it was
+pub record TakesOver (m : Algebra) (old new : CopyState) : Type 0 where
+  pub is_open : IsOpenCopy m new
+  pub settled : IsSettledCopy m old → IsSettledCopy m new
+  pub swept : (k : ℕ) → IsSweptCopy m old k → IsSweptCopy m new k
+  pub slice : new.slice ≡ old.slice
+  pub rows : new.rows ≡ old.rows

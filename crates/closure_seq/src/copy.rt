@@ -10,7 +10,7 @@
 //! are stated. Then edges are taken off the queue.
 
 ghost use Rattle.std.specs.Prelude.{◌≡◌, ◌*◌, ◌<◌, ◌≤◌, length, IsTrue};
-ghost use Rattle.network_words.specs.Edge.{edge_count};
+ghost use Rattle.network_words.specs.Edge.{edge_count, IsProperPair};
 ghost use Rattle.network_words.specs.declared.TheConstants.{MAX_NODES};
 ghost use Rattle.compose_fast.specs.Planes.{AreBaseTables};
 ghost use Rattle.edge_propagation.specs.Propagation.{AreConverses, IsReady, IsRefinement, IsStep, IsSettled, IsRowSettled};
@@ -18,11 +18,11 @@ ghost use Rattle.edge_propagation.specs.Propagation.{IsPlanes};
 ghost use Rattle.edge_propagation.specs.Propagation.{IsMet};
 
 use crate::rows::rows_of;
-use calculus_table::{Compose, Memory, lawful};
+use calculus_table::{Compose, Memory, Rel, lawful};
 use compose_fast::Tables;
 use edge_propagation::{
-    Note, PairSets, Proposals, Span, Sweep, is_stored, load_planes, meet, propagate_noted,
-    sweep_row,
+    Note, PairSets, Proposals, Span, Sweep, is_stored, load_planes, meet, meet_pair,
+    propagate_noted, sweep_row,
 };
 use std::alloc::Global;
 use std::marker::Model;
@@ -43,6 +43,25 @@ fn meet_planes<C: Compose>(pairs: &mut PairSets, words: &[u64], c: &C)
         meet::<C, 4>(pairs, c, words);
     } else {
         meet::<C, 8>(pairs, c, words);
+    }
+}
+
+/// Intersects the set of `(i, j)` with another, for the number of planes that the sets are kept in.
+fn meet_pair_planes<C: Compose>(pairs: &mut PairSets, c: &C, i: u32, j: u32, rel: Rel)
+    requires planes { IsPlanes pairs.old.planes }
+    requires sets { AreConverses (C.algebra c.now) pairs.old }
+    requires proper { IsProperPair pairs.old.nodes i j }
+    ensures { IsMet (C.algebra c.now) pairs.old pairs.new }
+{
+    let planes = pairs.planes();
+    if planes == 1 {
+        meet_pair::<C, 1>(pairs, c, i, j, rel);
+    } else if planes == 2 {
+        meet_pair::<C, 2>(pairs, c, i, j, rel);
+    } else if planes == 4 {
+        meet_pair::<C, 4>(pairs, c, i, j, rel);
+    } else {
+        meet_pair::<C, 8>(pairs, c, i, j, rel);
     }
 }
 
@@ -128,11 +147,11 @@ impl Model for SliceCopy {
 impl SliceCopy {
     ghost use Rattle.std.specs.Prelude.{◌≡◌, ◌+◌, ◌<◌, ◌≤◌, length, IsTrue, IfOk};
     ghost use Rattle.calculus_table.specs.Algebra.{Algebra};
-    ghost use Rattle.network_words.specs.Edge.{edge_count};
+    ghost use Rattle.network_words.specs.Edge.{edge_count, IsProperPair};
     ghost use Rattle.network_words.specs.Network.{IsNetwork};
     ghost use Rattle.network_words.specs.Closure.{IsClosed, IsRangeClosed};
     ghost use Rattle.network_words.specs.declared.TheConstants.{MAX_NODES};
-    ghost use Rattle.closure_seq.specs.Copies.{Slice, IsCopyOf, IsOpenCopy, IsSettledCopy, IsSweptCopy};
+    ghost use Rattle.closure_seq.specs.Copies.{Slice, IsCopyOf, IsOpenCopy, IsSettledCopy, IsSweptCopy, TakesOver};
 
     /// Room for copies of networks of so many nodes.
     pub fn new(alloc: Global, nodes: u32) -> Result<SliceCopy, Memory>
@@ -255,6 +274,16 @@ impl SliceCopy {
     {
         self.since = self.pairs.taken();
         meet_planes(&mut self.pairs, words, c);
+    }
+
+    /// Takes over the set of the pair `(i, j)` where it is less than the copy's, and queues its edge.
+    pub fn meet_at<C: Compose>(&mut self, c: &C, i: u32, j: u32, rel: Rel)
+        requires is_open { IsOpenCopy (C.algebra c.now) self.old }
+        requires proper { IsProperPair self.old.slice.nodes i j }
+        ensures { TakesOver (C.algebra c.now) self.old self.new }
+    {
+        self.since = self.pairs.taken();
+        meet_pair_planes(&mut self.pairs, c, i, j, rel);
     }
 
     /// Narrows the edges of the slice until they are closed, or there is no room for notes of more. Returns whether no

@@ -1,5 +1,5 @@
 -- What a round does to the words.
-use Rattle.std.proofs.Common.{◌≡◌, ℕ, suc, ◌<◌, List, [], ◌∷◌, ◌++◌, length, sym, ◌∙◌, ap, subst, arith, inl, inr}
+use Rattle.std.proofs.Common.{◌≡◌, ℕ, ◌<◌, List, [], ◌∷◌, ◌++◌, length, sym, ◌∙◌, ap, subst, arith, inl, inr}
 use Rattle.std.specs.Prelude.{slice_index, sum, get_or}
 use Rattle.std.specs.List.{All, AllZip}
 use Rattle.std.proofs.lemmas.Bool.{cases_lt}
@@ -95,12 +95,12 @@ KeepsClosed-empty m n old words empty c net k clash l z = record {
 
 -- ---- one by one
 
--- what holds of the elements at each place holds of the lists
-pub AllZip-from_each : {X : Type 0} (R : X → X → Type 0) (xs ys : List X) → length xs ≡ length ys → ((i : ℕ) (d e : X) → i < length xs → R (get_or xs i d) (get_or ys i e)) → AllZip R xs ys
-AllZip-from_each R [] [] l h = tt
-AllZip-from_each R [] (y ∷ ys) l h = absurd (omega arith)
-AllZip-from_each R (x ∷ xs) [] l h = absurd (omega arith)
-AllZip-from_each R (x ∷ xs) (y ∷ ys) l h = (h 0 x y (omega arith), AllZip-from_each R xs ys (omega arith) (λ i d e b. h (suc i) d e (omega arith)))
+-- what holds of two lists, and of one more element of each, holds of the longer lists
+pub AllZip-push : {X : Type 0} (R : X → X → Type 0) (xs ys : List X) (x y : X) → AllZip R xs ys → R x y → AllZip R (xs ++ x ∷ []) (ys ++ y ∷ [])
+AllZip-push R [] [] x y z r = (r, tt)
+AllZip-push R [] (b ∷ ys) x y z r = absurd z
+AllZip-push R (a ∷ xs) [] x y z r = absurd z
+AllZip-push R (a ∷ xs) (b ∷ ys) x y z r = (z.0, AllZip-push R xs ys x y z.1 r)
 
 -- what each pair of elements tells of the second one
 pub All-second : {X : Type 0} (R : X → X → Type 0) (P : X → Type 0) (xs ys : List X) → AllZip R xs ys → ((x y : X) → R x y → P y) → All P ys

@@ -8,6 +8,6 @@
 mod pieces;
 mod rounds;
 
-pub use edge_slices::{close_slice, close_slice_with};
+pub use edge_slices::{Others, close_slice, close_slice_with};
 pub use pieces::{is_shared, slice_end};
 pub use rounds::{close_held, close_parallel};

@@ -14,9 +14,9 @@ ghost use Rattle.closure_workers.specs.Pieces.{IsPieceOf, HasRun, AreDealt, AreH
 
 use calculus_table::{Compose, Memory};
 use closure_seq::SliceCopy;
-use edge_slices::close_slice_with;
+use edge_slices::{Others, close_slice_with, is_dense};
 use edge_table::{OpenNet, Pass, Snapshot};
-use network_words::edge_between;
+use network_words::{Net, edge_between};
 use qsr_outside::Gate;
 use std::alloc::Global;
 
@@ -33,19 +33,31 @@ pub(crate) struct Piece {
     pub(crate) times: u32,
 }
 
-/// How often a worker among others reads the words before it ends.
-const TIMES: u32 = 2;
+/// How often a worker among others reads the words in vain before it ends, even if they have something to look at.
+const TIMES: u32 = 16;
 
 /// The least number of nodes whose edges are shared out, times the square of that of base relations.
 const SHARED: u64 = 500_000;
 
-/// Whether it pays to share the edges among so many nodes out among workers, over a calculus of so many base relations.
-/// Each worker takes every edge that becomes smaller off a queue of its own, and composes again what it found. So
-/// sharing pays only where looking along an edge takes long: where the rows are long, and composing one takes long,
-/// which grows with the square of the number of base relations.
+/// Whether it pays to share the edges among so many nodes out among workers, over a calculus of so many base relations,
+/// whatever is stated. Each worker takes every edge that becomes smaller off a queue of its own, and composes again
+/// what it found. So sharing pays only where looking along an edge takes long: where the rows are long, and composing
+/// one takes long, which grows with the square of the number of base relations.
 pub fn is_shared(nodes: u32, size: u32) -> bool {
     let size = u64::from(size);
     u64::from(nodes).saturating_mul(size.saturating_mul(size)) >= SHARED
+}
+
+/// The least work that is shared out, as `is_work_shared` counts it: that of 250 nodes over eight base relations.
+const SHARED_WORK: u64 = 125_000_000;
+
+/// Whether it pays to share the edges of a network out: where most of them are stated, so that each worker sweeps its
+/// own rows and takes few edges off its queue, and where there is work enough. That grows with the cube of the number
+/// of nodes, and with the number of base relations.
+pub(crate) fn is_work_shared<C: Compose>(net: &Net, c: &C) -> bool {
+    let nodes = u64::from(net.nodes());
+    let triples = nodes.saturating_mul(nodes).saturating_mul(nodes);
+    triples.saturating_mul(u64::from(c.size())) >= SHARED_WORK && is_dense(net.words(), c.full())
 }
 
 /// What sweeping the rows before `i` takes, in thirty-seconds of a block of 16 nodes: a row has a block for each 16
@@ -177,6 +189,7 @@ pub(crate) fn run_piece<C: Compose, G: Gate>(
     table: &OpenNet,
     c: &C,
     gate: &G,
+    others: &Others,
     mut piece: Piece,
 ) -> Piece
     requires calculus { C.algebra c.now ≡ algebra_of table.now.opening }
@@ -196,6 +209,7 @@ pub(crate) fn run_piece<C: Compose, G: Gate>(
         piece.from,
         piece.to,
         piece.times,
+        others,
     );
     gate.pass(1000 + piece.number);
     piece

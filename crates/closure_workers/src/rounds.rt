@@ -5,6 +5,8 @@
 //! seen just the words that the table was closed with, these are closed at each edge, and so they are the closure.
 //! Where a word is empty and there are three nodes or more, the closure has every set empty.
 //!
+//! Each worker has a thread of its own, and the thread that starts them waits.
+//!
 //! Why it ends: if one of them has seen other words, then some word became less in this round, since what each has
 //! seen lies between the words at the round's beginning and those at its end.
 
@@ -18,11 +20,11 @@ ghost use Rattle.network_words.specs.Closure.{IsClosed, KeepsClosed, IsClosure};
 ghost use Rattle.edge_table.specs.Opening.{algebra_of, IsPassOf};
 ghost use Rattle.closure_workers.specs.Pieces.{IsPieceOf, HasRun, IsBetween, AreHeld, AreClosedIfSeen};
 
-use crate::pieces::{Piece, deal, gather, is_shared, run_piece};
+use crate::pieces::{Piece, deal, gather, is_work_shared, run_piece};
 use calculus_table::{Compose, Memory, Rel, lawful};
 use closure_seq::{SliceCopy, close};
 use compose_fast::first_difference;
-use edge_slices::is_clash;
+use edge_slices::{Others, is_clash};
 use edge_table::{OpenNet, Snapshot, open};
 use network_words::Net;
 use qsr_outside::Gate;
@@ -30,27 +32,43 @@ use std::alloc::Global;
 use std::thread;
 use std::thread::Threads;
 
-/// Runs all pieces at once.
+/// Runs all pieces at once, each in a thread of its own, the last one first. This thread only waits, since a thread
+/// that began on the processor of another one would have to wait for that.
+#[cycle(pieces)]
 fn run_pieces<R: Threads + Sync, C: Compose + Sync, G: Gate + Sync>(
     rt: &R,
     alloc: Global,
     table: &OpenNet,
     c: &C,
     gate: &G,
-    pieces: Vec<Piece>,
+    others: &Others,
+    mut pieces: Vec<Piece>,
 ) -> Result<Vec<Piece>, Memory>
     requires calculus { C.algebra c.now ≡ algebra_of table.now.opening }
     requires pieces { All (IsPieceOf table.now) pieces.items }
     ensures { IfOk result (λ ran. AllZip (HasRun (C.algebra c.now) table.now) pieces.items ran.items) }
 {
-    let run = |piece: Piece| -> Piece
-        requires { (C.algebra c.now ≡ algebra_of table.now.opening) × IsPieceOf table.now piece }
-        ensures { HasRun (C.algebra c.entry.now) table.entry.now piece result }
-    { run_piece(alloc, table, c, gate, piece) };
-    let Ok(ran) = thread::map_vec(rt, pieces, &run) else {
+    let Some(last) = pieces.pop() else {
+        return Ok(Vec::new(alloc));
+    };
+    let work = move || -> Piece
+        requires { IsSync C.row × IsSync G.row × (C.algebra c.now ≡ algebra_of table.now.opening)
+            × IsPieceOf table.now last }
+        ensures { HasRun (C.algebra c.entry.now) table.entry.now last result }
+    { run_piece(alloc, table, c, gate, others, last) };
+    let others = move || -> Result<Vec<Piece>, Memory>
+        requires { IsSync R.row × IsSync C.row × IsSync G.row
+            × (C.algebra c.now ≡ algebra_of table.now.opening)
+            × All (IsPieceOf table.now) pieces.items }
+        ensures { IfOk result (λ ran.
+            AllZip (HasRun (C.algebra c.entry.now) table.entry.now) pieces.items ran.items) }
+    { run_pieces(rt, alloc, table, c, gate, others, pieces) };
+    let (piece, ran) = thread::join(rt, work, others);
+    let mut all = ran?;
+    let Ok(()) = all.push(piece) else {
         return Err(Memory);
     };
-    Ok(ran)
+    Ok(all)
 }
 
 /// Narrows the network by all workers at once, and returns what each has seen in the end. The workers take the copies
@@ -77,7 +95,8 @@ fn narrow_at_once<R: Threads + Sync, C: Compose + Sync, G: Gate + Sync>(
     lawful(c);
     let (table, pass) = open(alloc, net, c, count + 1)?;
     let (home, pieces) = deal(alloc, &table, pass, net.edges(), count, helds)?;
-    let pieces = run_pieces(rt, alloc, &table, c, gate, pieces)?;
+    let others = Others::of(count);
+    let pieces = run_pieces(rt, alloc, &table, c, gate, &others, pieces)?;
     let (pass, snaps) = gather(alloc, &table, home, pieces, helds)?;
     table.close(pass, net);
     Ok(snaps)
@@ -267,7 +286,7 @@ pub fn close_parallel<R: Threads + Sync, C: Compose + Sync, G: Gate + Sync>(
     ensures memory { OnErr result (net.new ≡ net.old) }
 {
     let count = workers.min(net.edges()).max(1);
-    let shared = is_shared(net.nodes(), c.size());
+    let shared = is_work_shared(net, c);
     if count == 1 || !shared && gate.is_open() {
         return close_alone(alloc, net, c, gate, count - 1);
     }

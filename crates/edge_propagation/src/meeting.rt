@@ -12,7 +12,7 @@ use network_words::edge_between;
 
 /// Intersects the set of `(i, j)` with another. If it becomes smaller its edge is queued.
 #[inline(always)]
-fn meet_pair<C: Compose, const P: usize>(work: &mut PairSets, c: &C, i: u32, j: u32, rel: Rel)
+pub fn meet_pair<C: Compose, const P: usize>(work: &mut PairSets, c: &C, i: u32, j: u32, rel: Rel)
     requires planes { work.old.planes ≡ P }
     requires sets { AreConverses (C.algebra c.now) work.old }
     requires proper { IsProperPair work.old.nodes i j }

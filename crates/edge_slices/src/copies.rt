@@ -4,12 +4,14 @@
 //! the slice by propagation, as a network is closed on one thread, and notes each triple along which it made a set
 //! smaller. The pass narrows the words of the table along these triples in the same order, so that it
 //! has then seen what the copy has, or less where others narrowed. When the copy has nothing left to look at, the
-//! pass reads every word again. Where that brings nothing new, and the words are the copy's sets, the slice is closed;
-//! else the copy takes over what became less, and looks only at the triples of these edges.
+//! pass reads the words again that others narrow too, and the copy takes over what became less, edge by edge, and looks
+//! only at the triples of these edges. Where that brings nothing new, and the words are the copy's sets, the slice is
+//! closed.
 //!
-//! Others narrow at once. So the words are read after some edges too, since an edge that another has made smaller is
-//! then looked at once and not twice; and they are read twice before a slice ends, since one that ends too early costs
-//! a round. The copy is kept for that round, and takes over what became less meanwhile.
+//! Others narrow at once. So the words are read after the first sweep and after some edges too, since an edge that
+//! another has made smaller is then looked at once and not twice; and they are read again and again before a slice
+//! ends, as long as others seem to have something to look at, since one that ends too early costs a round. The copy is
+//! kept for that round, and takes over what became less meanwhile.
 //!
 //! The copy and its notes only propose. If the comparison fails, and the copy has nothing to take over, the answer is
 //! that nothing is known. Each other turn takes an edge off the copy's queue, or the pass has seen less, so that there
@@ -21,13 +23,15 @@ ghost use Rattle.network_words.specs.Network.{IsNetwork};
 ghost use Rattle.network_words.specs.Closure.{IsRangeClosed};
 ghost use Rattle.edge_table.specs.Opening.{IsPassOf, algebra_of};
 ghost use Rattle.edge_table.specs.Passes.{ReadsAll};
-ghost use Rattle.closure_seq.specs.Copies.{IsOpenCopy, IsSettledCopy};
+ghost use Rattle.closure_seq.specs.Copies.{IsOpenCopy, IsSettledCopy, TakesOver};
 ghost use Rattle.edge_slices.specs.Slices.{HasClash, IsSliceClosed, IsHeld, IsBegun};
 
+use crate::others::Others;
 use crate::slices::{is_clash, narrow_along};
 use calculus_table::{Compose, Rel};
 use closure_seq::{Note, SliceCopy, Sweep};
 use edge_table::{OpenNet, Pass, Snapshot};
+use network_words::edge_between;
 
 /// The most turns that are taken on a copy.
 const TURNS: u32 = 1_000_000;
@@ -104,6 +108,142 @@ fn follow<C: Compose>(
     copy.forget_notes();
 }
 
+/// Reads the word of an edge, that from `i` to `k`, again, and takes it over into the copy if it is less than the pass
+/// had seen. Returns whether it is.
+fn read_edge<C: Compose>(
+    table: &OpenNet,
+    pass: &mut Pass,
+    c: &C,
+    snap: &mut Snapshot,
+    copy: &mut SliceCopy,
+    edge: u32,
+    i: u32,
+    k: u32,
+) -> bool
+    requires pass { IsPassOf table.now pass.old }
+    requires snap { snap.old ≡ pass.old.actor.seen }
+    requires is_open { IsOpenCopy (C.algebra c.now) copy.old }
+    requires nodes { copy.old.slice.nodes ≡ table.now.opening.nodes }
+    requires edge { edge < edge_count table.now.opening.nodes }
+    requires order { i < k }
+    requires below { k < table.now.opening.nodes }
+    ensures pass { IsPassOf table.now pass.new }
+    ensures reads { ReadsAll pass.old pass.new }
+    ensures snap { snap.new ≡ pass.new.actor.seen }
+    ensures copy { TakesOver (C.algebra c.now) copy.old copy.new }
+{
+    let Some(set) = table.read_again(pass, snap, edge) else {
+        return false;
+    };
+    copy.meet_at(c, i, k, set);
+    true
+}
+
+/// Reads the word of each edge from `i` to a greater node again, and takes over into the copy what is less than the
+/// pass had seen. Returns whether some is.
+fn read_row<C: Compose>(
+    table: &OpenNet,
+    pass: &mut Pass,
+    c: &C,
+    snap: &mut Snapshot,
+    copy: &mut SliceCopy,
+    i: u32,
+) -> bool
+    requires pass { IsPassOf table.now pass.old }
+    requires snap { snap.old ≡ pass.old.actor.seen }
+    requires is_open { IsOpenCopy (C.algebra c.now) copy.old }
+    requires nodes { copy.old.slice.nodes ≡ table.now.opening.nodes }
+    requires below { i < table.now.opening.nodes }
+    ensures pass { IsPassOf table.now pass.new }
+    ensures reads { ReadsAll pass.old pass.new }
+    ensures snap { snap.new ≡ pass.new.actor.seen }
+    ensures copy { TakesOver (C.algebra c.now) copy.old copy.new }
+{
+    let mut less = false;
+    let nodes = table.nodes();
+    for k in i + 1..nodes {
+        let edge = edge_between(nodes, i, k);
+        less |= read_edge(table, pass, c, snap, copy, edge, i, k);
+    }
+    less
+}
+
+/// Reads the words of the edges from the nodes of a range to greater ones again, and takes over into the copy what is
+/// less than the pass had seen. Returns whether some is.
+fn read_rows<C: Compose>(
+    table: &OpenNet,
+    pass: &mut Pass,
+    c: &C,
+    snap: &mut Snapshot,
+    copy: &mut SliceCopy,
+    first: u32,
+    end: u32,
+) -> bool
+    requires pass { IsPassOf table.now pass.old }
+    requires snap { snap.old ≡ pass.old.actor.seen }
+    requires is_open { IsOpenCopy (C.algebra c.now) copy.old }
+    requires nodes { copy.old.slice.nodes ≡ table.now.opening.nodes }
+    requires below { end ≤ table.now.opening.nodes }
+    ensures pass { IsPassOf table.now pass.new }
+    ensures reads { ReadsAll pass.old pass.new }
+    ensures snap { snap.new ≡ pass.new.actor.seen }
+    ensures copy { TakesOver (C.algebra c.now) copy.old copy.new }
+{
+    let mut less = false;
+    for i in first..end {
+        less |= read_row(table, pass, c, snap, copy, i);
+    }
+    less
+}
+
+/// Reads the words again that others narrow too, and takes over into the copy what is less than the pass had seen.
+/// Returns whether some is. The rows between the first and the last one of the slice belong to this pass alone.
+fn read_words<C: Compose>(
+    table: &OpenNet,
+    pass: &mut Pass,
+    c: &C,
+    snap: &mut Snapshot,
+    copy: &mut SliceCopy,
+) -> bool
+    requires pass { IsPassOf table.now pass.old }
+    requires snap { snap.old ≡ pass.old.actor.seen }
+    requires is_open { IsOpenCopy (C.algebra c.now) copy.old }
+    requires nodes { copy.old.slice.nodes ≡ table.now.opening.nodes }
+    ensures pass { IsPassOf table.now pass.new }
+    ensures reads { ReadsAll pass.old pass.new }
+    ensures snap { snap.new ≡ pass.new.actor.seen }
+    ensures copy { TakesOver (C.algebra c.now) copy.old copy.new }
+{
+    let nodes = table.nodes();
+    let (first, end) = copy.rows();
+    let own = first.saturating_add(1);
+    let last = end.saturating_sub(1).max(own);
+    let before = read_rows(table, pass, c, snap, copy, 0, own.min(nodes));
+    let after = read_rows(table, pass, c, snap, copy, last, nodes);
+    before | after
+}
+
+/// Reads the words again as `read_words` does, if that is wanted.
+fn read_if<C: Compose>(
+    table: &OpenNet,
+    pass: &mut Pass,
+    c: &C,
+    snap: &mut Snapshot,
+    copy: &mut SliceCopy,
+    wanted: bool,
+) -> bool
+    requires pass { IsPassOf table.now pass.old }
+    requires snap { snap.old ≡ pass.old.actor.seen }
+    requires is_open { IsOpenCopy (C.algebra c.now) copy.old }
+    requires nodes { copy.old.slice.nodes ≡ table.now.opening.nodes }
+    ensures pass { IsPassOf table.now pass.new }
+    ensures reads { ReadsAll pass.old pass.new }
+    ensures snap { snap.new ≡ pass.new.actor.seen }
+    ensures copy { TakesOver (C.algebra c.now) copy.old copy.new }
+{
+    wanted && read_words(table, pass, c, snap, copy)
+}
+
 /// Sweeps the rows of the slice on the copy, and narrows the words as it did after each row. Returns whether no set of
 /// the copy became empty.
 fn sweep_rows<C: Compose>(
@@ -163,9 +303,7 @@ fn sweep_slice<C: Compose>(
     if !sweep_rows(table, pass, c, snap, copy, Sweep::First) {
         return false;
     }
-    if times > 0 && table.refresh_again(pass, snap) {
-        copy.catch_up(c, snap.words());
-    }
+    read_if(table, pass, c, snap, copy, times > 0);
     sweep_rows(table, pass, c, snap, copy, Sweep::Whole)
 }
 
@@ -182,19 +320,38 @@ fn after_empty(nodes: u32, words: &[u64]) -> Turn
     }
 }
 
-/// Reads every word again, up to so many times until the pass has seen less. Returns whether it has.
-fn read_again(table: &OpenNet, pass: &mut Pass, snap: &mut Snapshot, times: u32) -> bool
+/// Reads the words again until some is less than the pass had seen, which the copy takes over, or no other worker has
+/// had anything to look at for two readings, or so many times. Returns whether some is.
+fn read_on<C: Compose>(
+    table: &OpenNet,
+    pass: &mut Pass,
+    c: &C,
+    snap: &mut Snapshot,
+    copy: &mut SliceCopy,
+    times: u32,
+    others: &Others,
+) -> bool
     requires pass { IsPassOf table.now pass.old }
     requires snap { snap.old ≡ pass.old.actor.seen }
-    requires length_is { length snap.old ≡ edge_count table.now.opening.nodes }
+    requires is_open { IsOpenCopy (C.algebra c.now) copy.old }
+    requires nodes { copy.old.slice.nodes ≡ table.now.opening.nodes }
     ensures pass { IsPassOf table.now pass.new }
-    ensures snap { snap.new ≡ pass.new.actor.seen }
-    ensures length_is { length snap.new ≡ edge_count table.now.opening.nodes }
     ensures reads { ReadsAll pass.old pass.new }
+    ensures snap { snap.new ≡ pass.new.actor.seen }
+    ensures copy { TakesOver (C.algebra c.now) copy.old copy.new }
 {
+    let mut quiet: u32 = 0;
     for _time in 0..times {
-        if table.refresh_again(pass, snap) {
+        quiet = if others.are_done() {
+            quiet.saturating_add(1)
+        } else {
+            0
+        };
+        if read_words(table, pass, c, snap, copy) {
             return true;
+        }
+        if quiet > 1 {
+            return false;
         }
     }
     false
@@ -209,6 +366,7 @@ fn take_turn<C: Compose>(
     snap: &mut Snapshot,
     copy: &mut SliceCopy,
     times: u32,
+    others: &Others,
 ) -> Turn
     requires pass { IsPassOf table.now pass.old }
     requires calculus { C.algebra c.now ≡ algebra_of table.now.opening }
@@ -231,16 +389,24 @@ fn take_turn<C: Compose>(
     if !settled {
         return after_empty(table.nodes(), snap.words());
     }
-    let idle = copy.is_idle();
-    if !idle && (times < 2 || !copy.is_due()) {
+    if !copy.is_idle() {
+        read_if(table, pass, c, snap, copy, times > 1 && copy.is_due());
         return Turn::More;
     }
-    let brought = read_again(table, pass, snap, if idle { times } else { 1 });
-    if !brought && copy.matches(c, snap.words()) {
+    if read_if(table, pass, c, snap, copy, times > 0) {
+        return Turn::More;
+    }
+    others.leave();
+    let less = read_on(table, pass, c, snap, copy, times.saturating_sub(1), others);
+    if !less && copy.matches(c, snap.words()) {
         return Turn::Closed;
     }
+    others.come_back();
+    if less {
+        return Turn::More;
+    }
     copy.catch_up(c, snap.words());
-    if !brought && copy.is_idle() {
+    if copy.is_idle() {
         return Turn::Unknown;
     }
     Turn::More
@@ -254,6 +420,7 @@ fn take_turns<C: Compose>(
     snap: &mut Snapshot,
     copy: &mut SliceCopy,
     times: u32,
+    others: &Others,
 ) -> Turn
     requires pass { IsPassOf table.now pass.old }
     requires calculus { C.algebra c.now ≡ algebra_of table.now.opening }
@@ -270,7 +437,7 @@ fn take_turns<C: Compose>(
     ensures settled { result ≡ Turn.Closed → IsSettledCopy (C.algebra c.now) copy.new }
 {
     for _turn in 0..TURNS {
-        let turn = take_turn(table, pass, c, snap, copy, times);
+        let turn = take_turn(table, pass, c, snap, copy, times, others);
         if turn != Turn::More {
             return turn;
         }
@@ -279,7 +446,7 @@ fn take_turns<C: Compose>(
 }
 
 /// Whether most of these sets are less than `full`.
-fn is_dense(words: &[u64], full: Rel) -> bool {
+pub fn is_dense(words: &[u64], full: Rel) -> bool {
     let full = full.word();
     let mut lesser: usize = 0;
     for word in words {
@@ -351,6 +518,7 @@ fn close_copy<C: Compose>(
     copy: &mut SliceCopy,
     is_settled: bool,
     times: u32,
+    others: &Others,
 ) -> Turn
     requires pass { IsPassOf table.now pass.old }
     requires calculus { C.algebra c.now ≡ algebra_of table.now.opening }
@@ -370,7 +538,7 @@ fn close_copy<C: Compose>(
     if !is_settled && !sweep_slice(table, pass, c, snap, copy, times) {
         return after_empty(table.nodes(), snap.words());
     }
-    take_turns(table, pass, c, snap, copy, times)
+    take_turns(table, pass, c, snap, copy, times, others)
 }
 
 /// Closes the slice on a copy, and holds the copy if that tells that the slice is closed. Returns whether the slice is
@@ -384,6 +552,7 @@ pub(crate) fn close_on_copy<C: Compose>(
     from: u32,
     to: u32,
     times: u32,
+    others: &Others,
 ) -> bool
     requires pass { IsPassOf table.now pass.old }
     requires calculus { C.algebra c.now ≡ algebra_of table.now.opening }
@@ -401,12 +570,13 @@ pub(crate) fn close_on_copy<C: Compose>(
     let Some((mut copy, is_settled)) = begun(c, snap, held, table.nodes(), from, to) else {
         return false;
     };
-    match close_copy(table, pass, c, snap, &mut copy, is_settled, times) {
+    match close_copy(table, pass, c, snap, &mut copy, is_settled, times, others) {
         Turn::Closed => {
             *held = Some(copy);
             true
         }
         Turn::Clash => {
+            others.leave();
             snap.put_copy(copy);
             true
         }

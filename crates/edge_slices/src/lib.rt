@@ -6,6 +6,9 @@
 #![tactic(auto)]
 
 mod copies;
+mod others;
 mod slices;
 
+pub use copies::is_dense;
+pub use others::Others;
 pub use slices::{close_slice, close_slice_with, is_clash};

@@ -16,6 +16,7 @@ ghost use Rattle.edge_table.specs.Passes.{ReadsAll};
 ghost use Rattle.edge_slices.specs.Slices.{HasClash, IsSliceClosed, Looks, IsListedClosed, IsHeld};
 
 use crate::copies::close_on_copy;
+use crate::others::Others;
 use calculus_table::{Compose, lawful};
 use closure_seq::SliceCopy;
 use compose_fast::first_zero;
@@ -217,7 +218,8 @@ pub fn close_slice<C: Compose>(
     ensures closed { IsSliceClosed (C.algebra c.now) table.now.opening.nodes snap.new from to }
 {
     let mut held = None;
-    close_slice_with(table, pass, c, snap, &mut held, from, to, 1);
+    let others = Others::unknown();
+    close_slice_with(table, pass, c, snap, &mut held, from, to, 1, &others);
     if let Some(copy) = held {
         snap.put_copy(copy);
     }
@@ -225,7 +227,8 @@ pub fn close_slice<C: Compose>(
 
 /// Closes the edges of a slice as `close_slice` does, on the copy that is held, or on the snapshot's own where none
 /// is. If the copy tells in the end that the slice is closed, it is held for the next time. Before it ends it reads
-/// the words so many times more: where nobody else narrows them, none is needed.
+/// the words again until none of the others seems to have anything to look at, or so many times: where nobody else
+/// narrows them, none is needed.
 pub fn close_slice_with<C: Compose>(
     table: &OpenNet,
     pass: &mut Pass,
@@ -235,6 +238,7 @@ pub fn close_slice_with<C: Compose>(
     from: u32,
     to: u32,
     times: u32,
+    others: &Others,
 )
     requires pass { IsPassOf table.now pass.old }
     requires calculus { C.algebra c.now ≡ algebra_of table.now.opening }
@@ -248,7 +252,11 @@ pub fn close_slice_with<C: Compose>(
     ensures closed { IsSliceClosed (C.algebra c.now) table.now.opening.nodes snap.new from to }
 {
     table.refresh(pass, snap);
-    if from >= to || close_on_copy(table, pass, c, snap, held, from, to, times) {
+    if from < to && close_on_copy(table, pass, c, snap, held, from, to, times, others) {
+        return;
+    }
+    others.leave();
+    if from >= to {
         return;
     }
     while narrow_again(table, pass, c, snap, from, to) {

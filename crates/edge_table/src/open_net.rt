@@ -80,7 +80,7 @@ pub fn open<C: Compose>(
 }
 
 impl OpenNet {
-    ghost use Rattle.std.specs.Prelude.{◌≡◌, ◌≢◌, ℕ, ◌<◌, ◌≤◌, ◌↔◌, IsTrue, IfOk, length, sum, bit_and, slice_index};
+    ghost use Rattle.std.specs.Prelude.{◌≡◌, ◌≢◌, ℕ, ◌<◌, ◌≤◌, ◌↔◌, IsTrue, IfOk, IfSome, None, length, sum, bit_and, slice_index};
     ghost use Rattle.calculus_table.specs.Rel.{IsWithin};
     ghost use Rattle.calculus_table.specs.Composition.{full_of, composition};
     ghost use Rattle.network_words.specs.Edge.{edge_count, edge_between, IsProperPair, IsProperTriple};
@@ -218,6 +218,27 @@ impl OpenNet {
             less |= snap.take(edge, word);
         }
         less
+    }
+
+    /// Loads the word of an edge again. Returns its set, if the pass has then seen less of it.
+    pub fn read_again(&self, pass: &mut Pass, snap: &mut Snapshot, edge: u32) -> Option<Rel>
+        requires pass { IsPassOf self.now pass.old }
+        requires snap { snap.old ≡ pass.old.actor.seen }
+        requires edge { edge < edge_count self.now.opening.nodes }
+        ensures pass { IsPassOf self.now pass.new }
+        ensures reads { ReadsAll pass.old pass.new }
+        ensures snap { snap.new ≡ pass.new.actor.seen }
+        ensures set { IfSome result (λ set. (set ≡ slice_index snap.new edge) × (set ≢ slice_index snap.old edge)) }
+        ensures none { result ≡ None → snap.new ≡ snap.old }
+    {
+        // The proof needs what every pass keeps, which a use of its fields brings.
+        let _weight = &pass.weight;
+        let word = self.load(pass, edge);
+        if snap.take(edge, word) {
+            Some(Rel::of(word))
+        } else {
+            None
+        }
     }
 
     /// Two passes that have seen what this one has: the first keeps its facts and the rest of its

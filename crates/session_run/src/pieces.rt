@@ -18,7 +18,7 @@ ghost use Rattle.session_run.specs.Phase.{IsPiece, HasWorked};
 
 use calculus_table::{Compose, Memory};
 use closure_seq::SliceCopy;
-use closure_workers::{close_slice_with, is_shared, slice_end};
+use closure_workers::{Others, close_slice_with, is_shared, slice_end};
 use edge_table::{OpenNet, Pass, Snapshot};
 use qsr_outside::Gate;
 use std::alloc::Global;
@@ -148,6 +148,7 @@ fn run_piece<C: Compose, G: Gate>(
         piece.from,
         piece.to,
         1,
+        &Others::unknown(),
     );
     gate.pass(1000 + piece.number);
 }

@@ -8,7 +8,7 @@ use crate::nets::{chain, is_network, put, random_net};
 use calculus_builtin::{allen, point, rcc8};
 use calculus_table::{Calculus, Compose, Memory};
 use closure_seq::{SliceCopy, close};
-use closure_workers::{close_held, close_parallel, close_slice};
+use closure_workers::{Others, close_held, close_parallel, close_slice};
 use compose_fast::Fast;
 use edge_table::{Pass, Snapshot, open};
 use network_words::Net;
@@ -378,4 +378,16 @@ fn pieces_go_to_other_threads() {
     is_sent::<Pass>();
     is_sent::<Snapshot>();
     is_sent::<Option<SliceCopy>>();
+}
+
+#[test]
+fn others_are_done_once_each_has_left(rt: HostRuntime) {
+    let others = Others::of(2);
+    others.leave();
+    assert_same(&rt, others.are_done(), false);
+    others.leave();
+    assert_same(&rt, others.are_done(), true);
+    others.come_back();
+    assert_same(&rt, others.are_done(), false);
+    assert_same(&rt, Others::unknown().are_done(), false);
 }

@@ -1,8 +1,7 @@
-use Rattle.std.proofs.Common.{◌≡◌, ℕ, ◌<◌, ◌∙◌, List, length, sym, ap, subst}
-use Rattle.network_words.specs.Edge.{edge_count}
+use Rattle.std.proofs.Common.{ℕ, List, sym, subst}
 use Rattle.network_words.specs.Network.{IsNetwork}
 use Rattle.network_words.proofs.Refinements.{IsNetwork-refines}
-use Rattle.edge_table.specs.Opening.{OpenState, PassState, algebra_of}
+use Rattle.edge_table.specs.Opening.{PassState, algebra_of}
 use Rattle.edge_table.proofs.Passes.{seen-network, IsReadAgain-none, IsReadAgain-more}
 use Rattle.edge_table.proofs.open_net.OpenNet.refresh_again.Goals as goal
 
