@@ -16,7 +16,9 @@ use std::process::Abort;
 use std::test::Fail;
 use std::thread::{Threads, join};
 
-/// The proper parts among the relations of regions.
+/// Regions that meet, and the proper parts, among the relations of regions.
+const EC: u64 = 1 << 1;
+
 const TPP: u64 = 1 << 3;
 
 const NTPP: u64 = 1 << 4;
@@ -277,15 +279,18 @@ fn stated(table: &OpenNet, mut pass: Pass, c: &Calculus, fact: Fact) -> Pass
     pass
 }
 
-/// What a second pass peeks and a third one refreshes, after the first has stated a fact, and whether the third then
-/// sees less: after one more fact, and after none.
-fn seen_by_others(alloc: Global, c: &Calculus, snap: &mut Snapshot) -> Option<(u64, bool, bool)> {
+/// What a second pass peeks at, after the first has stated a fact; whether a third then sees less, after one more fact
+/// and after none; and what it reads of an edge, after a last fact of it.
+type Sight = (u64, bool, bool, Option<u64>);
+
+/// What passes see that look at the facts of another one.
+fn seen_by_others(alloc: Global, c: &Calculus, snap: &mut Snapshot) -> Option<Sight> {
     let (table, (first, second)) = opened_for_two(alloc, c, 3, 3, 1)?;
     let (first, third) = cut(&table, first, 1)?;
     state_and_look(&table, c, first, second, third, snap)
 }
 
-/// The first pass states facts, the second peeks at the pair of one, and the third reads every edge.
+/// The first pass states facts, the second peeks at the pair of one, and the third reads every edge and then one.
 fn state_and_look(
     table: &OpenNet,
     c: &Calculus,
@@ -293,7 +298,7 @@ fn state_and_look(
     mut second: Pass,
     mut third: Pass,
     snap: &mut Snapshot,
-) -> Option<(u64, bool, bool)>
+) -> Option<Sight>
     requires first { IsPassOf table.now first }
     requires second { IsPassOf table.now second }
     requires third { IsPassOf table.now third }
@@ -308,7 +313,9 @@ fn state_and_look(
     state(table, &mut first, c, fact(1, 2, NTPP));
     let less = table.refresh_again(&mut third, snap);
     let same = table.refresh_again(&mut third, snap);
-    Some((rel.word(), less, same))
+    state(table, &mut first, c, fact(0, 2, EC));
+    let read = table.read_again(&mut third, snap, 1);
+    Some((rel.word(), less, same, read.map(|rel| rel.word())))
 }
 
 #[test]
@@ -316,8 +323,8 @@ fn passes_see_what_others_state(rt: HostRuntime) -> Result<(), Fail> {
     let c = rcc8(rt.alloc())?;
     let mut snap = Snapshot::new(rt.alloc(), 3)?;
     let found = seen_by_others(rt.alloc(), &c, &mut snap);
-    assert_same(&rt, found, Some((TPP, true, false)));
-    assert_words(&rt, snap.words(), &[TPP, 255, NTPP]);
+    assert_same(&rt, found, Some((TPP, true, false, Some(EC))));
+    assert_words(&rt, snap.words(), &[TPP, EC, NTPP]);
     Ok(())
 }
 
