@@ -48,8 +48,11 @@ pub fn is_shared(nodes: u32, size: u32) -> bool {
     u64::from(nodes).saturating_mul(size.saturating_mul(size)) >= SHARED
 }
 
-/// The least work that is shared out, as `is_work_shared` counts it: that of 250 nodes over eight base relations.
+/// The least work that is shared out, as `is_work_shared` counts it: that of 125 nodes over 64 base relations.
 const SHARED_WORK: u64 = 125_000_000;
+
+/// The most base relations of a calculus whose networks are closed before threads and their room would pay.
+const QUICK: u32 = 8;
 
 /// Whether it pays to share the edges of a network out: where most of them are stated, so that each worker sweeps its
 /// own rows and takes few edges off its queue, and where there is work enough. That grows with the cube of the number
@@ -57,7 +60,9 @@ const SHARED_WORK: u64 = 125_000_000;
 pub(crate) fn is_work_shared<C: Compose>(net: &Net, c: &C) -> bool {
     let nodes = u64::from(net.nodes());
     let triples = nodes.saturating_mul(nodes).saturating_mul(nodes);
-    triples.saturating_mul(u64::from(c.size())) >= SHARED_WORK && is_dense(net.words(), c.full())
+    c.size() > QUICK
+        && triples.saturating_mul(u64::from(c.size())) >= SHARED_WORK
+        && is_dense(net.words(), c.full())
 }
 
 /// What sweeping the rows before `i` takes, in thirty-seconds of a block of 16 nodes: a row has a block for each 16
