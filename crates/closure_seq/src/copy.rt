@@ -14,8 +14,7 @@ ghost use Rattle.network_words.specs.Edge.{edge_count, IsProperPair};
 ghost use Rattle.network_words.specs.declared.TheConstants.{MAX_NODES};
 ghost use Rattle.compose_fast.specs.Planes.{AreBaseTables};
 ghost use Rattle.edge_propagation.specs.Propagation.{AreConverses, IsReady, IsRefinement, IsStep, IsSettled, IsRowSettled};
-ghost use Rattle.edge_propagation.specs.Propagation.{IsPlanes};
-ghost use Rattle.edge_propagation.specs.Propagation.{IsMet};
+ghost use Rattle.edge_propagation.specs.Propagation.{IsPlanes, IsMet, IsPairMet, AreRowsMet};
 
 use crate::rows::rows_of;
 use calculus_table::{Compose, Memory, Rel, lawful};
@@ -32,7 +31,8 @@ fn meet_planes<C: Compose>(pairs: &mut PairSets, words: &[u64], c: &C)
     requires planes { IsPlanes pairs.old.planes }
     requires sets { AreConverses (C.algebra c.now) pairs.old }
     requires length_is { length words.now ≡ edge_count pairs.old.nodes }
-    ensures { IsMet (C.algebra c.now) pairs.old pairs.new }
+    ensures met { IsMet (C.algebra c.now) pairs.old pairs.new }
+    ensures rows { AreRowsMet words.now pairs.old pairs.new pairs.old.nodes }
 {
     let planes = pairs.planes();
     if planes == 1 {
@@ -51,7 +51,8 @@ fn meet_pair_planes<C: Compose>(pairs: &mut PairSets, c: &C, i: u32, j: u32, rel
     requires planes { IsPlanes pairs.old.planes }
     requires sets { AreConverses (C.algebra c.now) pairs.old }
     requires proper { IsProperPair pairs.old.nodes i j }
-    ensures { IsMet (C.algebra c.now) pairs.old pairs.new }
+    ensures met { IsMet (C.algebra c.now) pairs.old pairs.new }
+    ensures set { IsPairMet pairs.old pairs.new i j rel }
 {
     let planes = pairs.planes();
     if planes == 1 {
@@ -151,6 +152,7 @@ impl SliceCopy {
     ghost use Rattle.network_words.specs.Network.{IsNetwork};
     ghost use Rattle.network_words.specs.Closure.{IsClosed, IsRangeClosed};
     ghost use Rattle.network_words.specs.declared.TheConstants.{MAX_NODES};
+    ghost use Rattle.edge_propagation.specs.Propagation.{IsPairMet, AreRowsMet};
     ghost use Rattle.closure_seq.specs.Copies.{Slice, IsCopyOf, IsOpenCopy, IsSettledCopy, IsSweptCopy, TakesOver};
 
     /// Room for copies of networks of so many nodes.
@@ -263,12 +265,13 @@ impl SliceCopy {
         sweep_planes(&mut self.pairs, &mut self.tables, c, i, sweep)
     }
 
-    /// Takes over the words where they are less than the copy's sets, and queues their edges.
+    /// Intersects each set with the word of its edge, and queues the edges whose set becomes smaller.
     pub fn catch_up<C: Compose>(&mut self, c: &C, words: &[u64])
         requires is_open { IsOpenCopy (C.algebra c.now) self.old }
         requires length_is { length words.now ≡ edge_count self.old.slice.nodes }
         ensures is_open { IsOpenCopy (C.algebra c.now) self.new }
         ensures settled { IsSettledCopy (C.algebra c.now) self.old → IsSettledCopy (C.algebra c.now) self.new }
+        ensures sets { AreRowsMet words.now self.old.work self.new.work self.old.slice.nodes }
         ensures slice { self.new.slice ≡ self.old.slice }
         ensures rows { self.new.rows ≡ self.old.rows }
     {
@@ -276,11 +279,12 @@ impl SliceCopy {
         meet_planes(&mut self.pairs, words, c);
     }
 
-    /// Takes over the set of the pair `(i, j)` where it is less than the copy's, and queues its edge.
+    /// Intersects the set of the pair `(i, j)` with another. If it becomes smaller its edge is queued.
     pub fn meet_at<C: Compose>(&mut self, c: &C, i: u32, j: u32, rel: Rel)
         requires is_open { IsOpenCopy (C.algebra c.now) self.old }
         requires proper { IsProperPair self.old.slice.nodes i j }
-        ensures { TakesOver (C.algebra c.now) self.old self.new }
+        ensures copy { TakesOver (C.algebra c.now) self.old self.new }
+        ensures set { IsPairMet self.old.work self.new.work i j rel }
     {
         self.since = self.pairs.taken();
         meet_pair_planes(&mut self.pairs, c, i, j, rel);

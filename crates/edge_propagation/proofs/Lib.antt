@@ -2,6 +2,7 @@ pub mod Places
 pub mod Planes
 pub mod Starts
 pub mod Steps
+pub mod Meets
 pub mod Settled
 pub mod Sweeps
 pub mod Blocks

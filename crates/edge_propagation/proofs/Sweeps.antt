@@ -1,5 +1,5 @@
 -- The pairs of a node with greater ones, narrowed along one third node after another.
-use Rattle.std.proofs.Common.{◌≡◌, ℕ, ◌+◌, ◌<◌, subst, sym, arith, inl, inr}
+use Rattle.std.proofs.Common.{◌≡◌, ℕ, ◌+◌, ◌<◌, subst, arith, inl, inr}
 use Rattle.std.proofs.lemmas.Bool.{cases_lt}
 use Rattle.calculus_table.specs.Algebra.{Algebra}
 use Rattle.network_words.specs.Edge.{IsProperTriple}

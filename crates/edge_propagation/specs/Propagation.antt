@@ -1,5 +1,5 @@
 -- What propagation does to the sets of pairs on the way to the closure of a network.
-use Rattle.std.specs.Prelude.{◌≡◌, ℕ, ◌*◌, ◌<◌, ◌≤◌, ◌⊎◌, List, slice_index}
+use Rattle.std.specs.Prelude.{◌≡◌, ◌≢◌, ℕ, ◌*◌, ◌<◌, ◌≤◌, ◌⊎◌, List, slice_index, bit_and}
 use Rattle.calculus_table.specs.Rel.{IsWithin}
 use Rattle.calculus_table.specs.Algebra.{Algebra}
 use Rattle.calculus_table.specs.Composition.{full_of, composition, converse}
@@ -122,6 +122,21 @@ pub record IsMet (m : Algebra) (old new : Worklist) : Type 0 where
   pub within : (i j : ℕ) → IsProperPair old.nodes i j → IsWithin (set_of new i j) (set_of old i j)
   pub stays : (i j : ℕ) → IsQueued old i j → IsQueued new i j
   pub same : (i j : ℕ) → IsProperPair old.nodes i j → ¬ IsQueued new i j → set_of new i j ≡ set_of old i j
+
+-- the set of (i, j) became its part within rel, and no other pair's changed
+pub record IsPairMet (old new : Worklist) (i j rel : ℕ) : Type 0 where
+  pub set : set_of new i j ≡ bit_and (set_of old i j) rel
+  pub others : (a b : ℕ) → IsProperPair old.nodes a b → ¬ IsSamePair a b i j → set_of new a b ≡ set_of old a b
+
+-- the sets of i to the greater nodes below k became their parts within the words of their edges, and no others changed
+pub record IsRowMet (words : List ℕ) (old new : Worklist) (i k : ℕ) : Type 0 where
+  pub each : (j : ℕ) → i < j → j < k → set_of new i j ≡ bit_and (set_of old i j) (slice_index words (edge_at old.nodes i j))
+  pub others : (a b : ℕ) → a < b → b < old.nodes → (a ≢ i) ⊎ (k ≤ b) → set_of new a b ≡ set_of old a b
+
+-- and so did those of each node below k to all greater ones
+pub record AreRowsMet (words : List ℕ) (old new : Worklist) (k : ℕ) : Type 0 where
+  pub each : (i j : ℕ) → i < k → i < j → j < old.nodes → set_of new i j ≡ bit_and (set_of old i j) (slice_index words (edge_at old.nodes i j))
+  pub others : (i j : ℕ) → k ≤ i → i < j → j < old.nodes → set_of new i j ≡ set_of old i j
 
 -- the numbers of planes that sets are kept in
 abbrev pub IsPlanes : ℕ → Type 0

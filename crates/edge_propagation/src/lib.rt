@@ -1,7 +1,7 @@
 //! Propagation: edges are taken off a queue, and the pairs along them are narrowed, until no edge is left.
 //!
-//! The sets of ordered pairs stand in planes of bytes ([`PairSets`]), so that the pairs of a row are narrowed 16 at a time.
-//! What may be looked at next is proposed by [`Proposals`]: the edge that restricts most, or the oldest.
+//! The sets of ordered pairs stand in planes of bytes ([`PairSets`]), so that the pairs of a row are narrowed 16 at a
+//! time. What may be looked at next is proposed by [`Proposals`]: the edge that restricts most, or the oldest.
 #![tactic(auto)]
 
 mod loading;

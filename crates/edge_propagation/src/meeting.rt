@@ -2,8 +2,7 @@
 
 ghost use Rattle.std.specs.Prelude.{◌≡◌, ◌<◌, length};
 ghost use Rattle.network_words.specs.Edge.{edge_count, IsProperPair};
-ghost use Rattle.edge_propagation.specs.Propagation.{AreConverses};
-ghost use Rattle.edge_propagation.specs.Propagation.{IsMet};
+ghost use Rattle.edge_propagation.specs.Propagation.{AreConverses, IsMet, IsPairMet, IsRowMet, AreRowsMet};
 
 use crate::pairs::PairSets;
 use crate::propagation::refine;
@@ -16,7 +15,8 @@ pub fn meet_pair<C: Compose, const P: usize>(work: &mut PairSets, c: &C, i: u32,
     requires planes { work.old.planes ≡ P }
     requires sets { AreConverses (C.algebra c.now) work.old }
     requires proper { IsProperPair work.old.nodes i j }
-    ensures { IsMet (C.algebra c.now) work.old work.new }
+    ensures met { IsMet (C.algebra c.now) work.old work.new }
+    ensures set { IsPairMet work.old work.new i j rel }
 {
     lawful(c);
     let _nodes = work.nodes();
@@ -34,7 +34,8 @@ fn meet_row<C: Compose, const P: usize>(work: &mut PairSets, c: &C, words: &[u64
     requires sets { AreConverses (C.algebra c.now) work.old }
     requires length_is { length words.now ≡ edge_count work.old.nodes }
     requires below { i < work.old.nodes }
-    ensures { IsMet (C.algebra c.now) work.old work.new }
+    ensures met { IsMet (C.algebra c.now) work.old work.new }
+    ensures row { IsRowMet words.now work.old work.new i work.old.nodes }
 {
     let nodes = work.nodes();
     for j in i + 1..nodes {
@@ -48,7 +49,8 @@ pub fn meet<C: Compose, const P: usize>(work: &mut PairSets, c: &C, words: &[u64
     requires planes { work.old.planes ≡ P }
     requires sets { AreConverses (C.algebra c.now) work.old }
     requires length_is { length words.now ≡ edge_count work.old.nodes }
-    ensures { IsMet (C.algebra c.now) work.old work.new }
+    ensures met { IsMet (C.algebra c.now) work.old work.new }
+    ensures rows { AreRowsMet words.now work.old work.new work.old.nodes }
 {
     let nodes = work.nodes();
     for i in 0..nodes {
