@@ -10,9 +10,9 @@ use Rattle.session_scripts.specs.declared.batch.What.{What}
 use Rattle.session_scripts.specs.declared.batch.What.TheVariants.{Refused}
 use Rattle.session_scripts.specs.declared.batch.Line.{Line}
 use Rattle.session_scripts.specs.Batches.{BatchState}
-use Rattle.session_run.specs.declared.steps.Step.{Step}
+use Rattle.session_phase.specs.declared.steps.Step.{Step}
 use Rattle.session_replies.specs.Replies.{said_by}
-use Rattle.session_run.specs.Phase.{asked_by, shown_by, asked_of, steps_of}
+use Rattle.session_phase.specs.Phase.{asked_by, shown_by, asked_of, steps_of}
 use Rattle.session_run.specs.Steps.{lines_from, AreDealt}
 use Rattle.session_run.proofs.Dealt.{lines_from-own, lines_from-other, one_more}
 

@@ -9,8 +9,8 @@ use Rattle.std.proofs.lemmas.List.Elements.{All-nil, All-cons, All-head, All-tai
 use Rattle.session_scripts.specs.declared.batch.What.{What}
 use Rattle.session_scripts.specs.declared.batch.Line.{Line}
 use Rattle.session_scripts.specs.Batches.{BatchState, IsAsked, IsLineFor, IsBatchFor}
-use Rattle.session_run.specs.declared.steps.Step.{Step}
-use Rattle.session_run.specs.Phase.{IsStepFor, asked_by, asked_of, steps_of}
+use Rattle.session_phase.specs.declared.steps.Step.{Step}
+use Rattle.session_phase.specs.Phase.{IsStepFor, asked_by, asked_of, steps_of}
 use Rattle.session_run.specs.Steps.{lines_from, lines_by, AreDealt}
 
 -- ---- one line more

@@ -25,13 +25,13 @@ use Rattle.session_scripts.specs.declared.batch.What.{What}
 use Rattle.session_scripts.specs.declared.batch.What.TheVariants.{Assert, Peek, Withdraw, Ask, Refused}
 use Rattle.session_scripts.specs.declared.batch.Line.{Line}
 use Rattle.session_scripts.specs.Batches.{BatchState, HasSession, IsLineFor, IsBatchFor}
-use Rattle.session_run.specs.declared.steps.Step.{Step}
+use Rattle.session_phase.specs.declared.steps.Step.{Step}
 use Rattle.session_replies.specs.Replies.{AreShown, ArePeeks, said_by, IsOpening, staying, draft_of, facts_of_lines}
 use Rattle.session_replies.specs.Drafting.{LosesFacts, GainsFacts}
-use Rattle.session_run.specs.Phase.{steps_of, asked_of, shown_by, facts_asked, IsClosureWithin}
+use Rattle.session_phase.specs.Phase.{steps_of, asked_of, shown_by, facts_asked, IsClosureWithin}
 use Rattle.session_run.specs.Steps.{AreDealt}
 use Rattle.session_run.proofs.Dealt.{length-asked_of}
-use Rattle.session_run.proofs.Narrowings.{IsClosure-within}
+use Rattle.session_phase.proofs.Narrowings.{IsClosure-within}
 use Rattle.session_run.proofs.StatedFacts.{asked-from_lines, asked-to_lines, proper_lines}
 
 -- ---- the network of facts

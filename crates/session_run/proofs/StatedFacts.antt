@@ -10,7 +10,7 @@ use Rattle.session_scripts.specs.declared.batch.What.TheVariants.{Assert, Peek, 
 use Rattle.session_scripts.specs.declared.batch.Line.{Line}
 use Rattle.session_scripts.specs.Batches.{BatchState, IsAsked, HasSession, IsLineFor, IsBatchFor}
 use Rattle.session_replies.specs.Replies.{facts_of_line, facts_of_lines}
-use Rattle.session_run.specs.Phase.{fact_of, facts_of_session, facts_asked}
+use Rattle.session_phase.specs.Phase.{fact_of, facts_of_session, facts_asked}
 use Rattle.session_run.specs.Steps.{lines_from, AreDealt}
 use Rattle.session_run.proofs.Dealt.{lines_from-own, lines_from-other}
 

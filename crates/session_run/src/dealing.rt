@@ -2,12 +2,12 @@
 ghost use Rattle.std.specs.Prelude.{◌≡◌, ◌<◌, ◌++◌, ◌∷◌, [], ℕ, IfOk, OnOk, length, replicate, slice_index_or};
 ghost use Rattle.std.specs.List.{zip};
 ghost use Rattle.session_replies.specs.Replies.{said_by};
-ghost use Rattle.session_run.specs.declared.steps.Step.{Step};
-ghost use Rattle.session_run.specs.Phase.{asked_by, shown_by, asked_of, steps_of};
+ghost use Rattle.session_phase.specs.declared.steps.Step.{Step};
+ghost use Rattle.session_phase.specs.Phase.{asked_by, shown_by, asked_of, steps_of};
 ghost use Rattle.session_run.specs.Steps.{AreDealt};
 
-use crate::steps::Step;
 use calculus_table::{Memory, Rel};
+use session_phase::Step;
 use session_scripts::{Batch, What};
 use std::alloc::Global;
 

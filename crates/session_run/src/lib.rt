@@ -8,11 +8,6 @@
 
 mod dealing;
 mod opening;
-mod phase;
-mod pieces;
-mod points;
 mod run;
-mod sessions;
-mod steps;
 
 pub use run::run_batch;

@@ -9,16 +9,16 @@ ghost use Rattle.network_words.specs.Closure.{IsClosed};
 ghost use Rattle.session_versions.specs.Stores.{IsStore};
 ghost use Rattle.session_scripts.specs.Batches.{IsBatchFor};
 ghost use Rattle.session_replies.specs.Drafting.{LosesFacts, GainsFacts};
-ghost use Rattle.session_run.specs.Phase.{IsClosureWithin};
+ghost use Rattle.session_phase.specs.Phase.{IsClosureWithin};
 ghost use Rattle.session_replies.specs.Replies.{withdrawal_faults, facts_of_lines, draft_of, staying, drafted};
 ghost use Rattle.session_replies.specs.Replies.{IsOpening, ArePeeks, IsAnswered};
 
 use crate::dealing::{deal, sets_shown};
 use crate::opening::{closed_above, opening};
-use crate::phase::narrow_together;
 use calculus_table::{Calculus, Compose, Memory, Rel};
 use network_words::Net;
 use qsr_outside::Gate;
+use session_phase::narrow_together;
 use session_replies::{add_all, replies, withdraw_all};
 use session_scripts::Batch;
 use session_versions::{Draft, Store, WithdrawFault};

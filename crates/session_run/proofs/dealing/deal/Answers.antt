@@ -3,8 +3,8 @@ use Rattle.std.proofs.Common.{◌≡◌, ◌+◌, ◌<◌, ◌≤◌, List, leng
 use Rattle.std.specs.Global.{Global}
 use Rattle.session_scripts.specs.declared.batch.Line.{Line}
 use Rattle.session_scripts.specs.Batches.{BatchState}
-use Rattle.session_run.specs.declared.steps.Step.{Step}
-use Rattle.session_run.specs.Phase.{asked_of, steps_of}
+use Rattle.session_phase.specs.declared.steps.Step.{Step}
+use Rattle.session_phase.specs.Phase.{asked_of, steps_of}
 use Rattle.session_run.specs.Steps.{AreDealt}
 use Rattle.session_run.proofs.Dealt.{AreDealt-own, AreDealt-passed, asked_of-more, length-asked_of}
 use Rattle.session_run.proofs.dealing.deal.Goals as goal

@@ -1,6 +1,6 @@
 -- The lines so far are dealt.
 use Rattle.std.proofs.Common.{take}
-use Rattle.session_run.specs.Phase.{asked_of, steps_of}
+use Rattle.session_phase.specs.Phase.{asked_of, steps_of}
 use Rattle.session_run.specs.Steps.{AreDealt}
 use Rattle.session_run.proofs.dealing.deal.Given as goal
 

@@ -5,8 +5,8 @@ use Rattle.std.specs.Global.{Global}
 use Rattle.std.proofs.lemmas.List.{length-map, get_or_read}
 use Rattle.session_scripts.specs.declared.batch.Line.{Line}
 use Rattle.session_scripts.specs.Batches.{BatchState}
-use Rattle.session_run.specs.declared.steps.Step.{Step}
-use Rattle.session_run.specs.Phase.{steps_of}
+use Rattle.session_phase.specs.declared.steps.Step.{Step}
+use Rattle.session_phase.specs.Phase.{steps_of}
 use Rattle.session_run.proofs.Back.{AreBack, AreBack-room, AreBack-shown, AreBack-other, AreBack-all, steps_of-at}
 use Rattle.session_run.proofs.dealing.sets_shown.Goals as goal
 use Rattle.session_run.proofs.dealing.sets_shown.Goals.{then-session-sessions, else-session-sessions}

@@ -1,5 +1,5 @@
 -- The lines so far have their sets.
-use Rattle.session_run.specs.Phase.{steps_of}
+use Rattle.session_phase.specs.Phase.{steps_of}
 use Rattle.session_run.proofs.Back.{AreBack}
 use Rattle.session_run.proofs.dealing.sets_shown.Given as goal
 

@@ -4,8 +4,8 @@ use Rattle.std.specs.Prelude.{Vec}
 use Rattle.std.specs.Global.{Global}
 use Rattle.std.specs.List.{zip}
 use Rattle.calculus_table.specs.Composition.{full_of}
-use Rattle.session_run.specs.declared.steps.Step.{Step}
-use Rattle.session_run.specs.Phase.{steps_of, asked_of, shown_by}
+use Rattle.session_phase.specs.declared.steps.Step.{Step}
+use Rattle.session_phase.specs.Phase.{steps_of, asked_of, shown_by}
 use Rattle.session_replies.specs.Replies.{said_by}
 use Rattle.session_run.specs.Steps.{AreDealt}
 use Rattle.session_run.proofs.Dealt.{length-asked_of, steps-asked}

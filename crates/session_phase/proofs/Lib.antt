@@ -1,0 +1,3 @@
+pub mod Narrowings
+pub mod Taken
+pub mod SessionLists

@@ -1,0 +1,87 @@
+-- Lists of sessions: what they ask for, dealt out, run and gathered again.
+use Rattle.std.proofs.Common.{◌≡◌, ℕ, zero, suc, ◌+◌, ◌<◌, List, [], ◌∷◌, ◌++◌, length, take, drop, get_or, set, refl, sym, ap, ◌∙◌, subst, arith, true, false, MatchBool, append_assoc, length-append, add-one, drop-cons, Vec, Global}
+use Rattle.std.specs.List.{All}
+use Rattle.std.proofs.lemmas.List.{append-nil, map_push, map-append, take_more_set}
+use Rattle.std.proofs.lemmas.List.Elements.{All-push}
+use Rattle.calculus_table.specs.Algebra.{Algebra}
+use Rattle.network_words.specs.declared.fact.Fact.{Fact}
+use Rattle.network_words.specs.Network.{Refines}
+use Rattle.network_words.proofs.Networks.{Refines-trans}
+use Rattle.session_scripts.specs.declared.batch.What.{What}
+use Rattle.session_phase.specs.declared.steps.Step.{Step}
+use Rattle.session_phase.specs.declared.sessions.Session.{Session}
+use Rattle.session_phase.specs.Phase.{asked_by, steps_of, asked_of, facts_of_session, facts_asked, facts_stated, asked_of_sessions, AreShownAbove}
+
+-- ---- what sessions ask for
+
+pub asked_of_sessions-push : (sessions : List Session) (session : Session) → asked_of_sessions (sessions ++ session ∷ []) ≡ asked_by session.steps.items ∷ asked_of_sessions sessions
+asked_of_sessions-push [] session = refl
+asked_of_sessions-push (s ∷ ss) session =
+    ap (λ (xs : List (List (ℕ × What))). xs ++ asked_by s.steps.items ∷ []) (asked_of_sessions-push ss session)
+
+pub length-asked_of_sessions : (sessions : List Session) → length (asked_of_sessions sessions) ≡ length sessions
+length-asked_of_sessions [] = refl
+length-asked_of_sessions (s ∷ ss) = omega (arith, length-append (asked_of_sessions ss) (asked_by s.steps.items ∷ []), length-asked_of_sessions ss)
+
+-- a session that asks for the same in the place of one
+pub asked_of_sessions-set : (sessions : List Session) (k : ℕ) (session d : Session) → k < length sessions → asked_by session.steps.items ≡ asked_by (get_or sessions k d).steps.items →
+    asked_of_sessions (set sessions k session) ≡ asked_of_sessions sessions
+asked_of_sessions-set [] k session d b e = absurd (omega arith)
+asked_of_sessions-set (s ∷ ss) zero session d b e = ap (λ (x : List (ℕ × What)). asked_of_sessions ss ++ x ∷ []) e
+asked_of_sessions-set (s ∷ ss) (suc k) session d b e =
+    ap (λ (xs : List (List (ℕ × What))). xs ++ asked_by s.steps.items ∷ []) (asked_of_sessions-set ss k session d (omega arith) e)
+
+pub facts_asked-append : (xs ys : List (List (ℕ × What))) → facts_asked (xs ++ ys) ≡ facts_asked xs ++ facts_asked ys
+facts_asked-append [] ys = refl
+facts_asked-append (x ∷ xs) ys =
+    ap (λ (fs : List Fact). facts_of_session x ++ fs) (facts_asked-append xs ys) ∙ sym (append_assoc (facts_of_session x) (facts_asked xs) (facts_asked ys))
+
+-- the facts of one session more
+pub facts_stated-push : (lines : List (List Step)) (steps : List Step) → facts_stated (lines ++ steps ∷ []) ≡ facts_stated lines ++ facts_of_session (asked_by steps)
+facts_stated-push lines steps =
+    ap facts_asked (map-append asked_by lines (steps ∷ [])) ∙ facts_asked-append (asked_of lines) (asked_by steps ∷ [])
+    ∙ ap (λ (fs : List Fact). facts_stated lines ++ fs) (append-nil (facts_of_session (asked_by steps)))
+
+-- what is above all that was seen is above what is less
+pub AreShownAbove-less : (m : Algebra) (n : ℕ) (opening xs ys : List ℕ) (steps : List Step) → Refines xs ys → AreShownAbove m n opening ys steps → AreShownAbove m n opening xs steps
+AreShownAbove-less m n opening xs ys steps w h = λ words v. h words (Refines-trans words xs ys v w)
+
+-- ---- sessions one by one
+
+pub steps_of-push : (lines : List (Vec Step Global)) (steps : Vec Step Global) → steps_of (lines ++ steps ∷ []) ≡ steps_of lines ++ steps.items ∷ []
+steps_of-push lines steps = map_push (λ (v : Vec Step Global). v.items) lines steps
+
+-- the last session is dealt out next
+pub asked_of-dealt : (old left : List (Vec Step Global)) (steps : Vec Step Global) (sessions : List Session) (session : Session) → old ≡ left ++ steps ∷ [] → session.steps ≡ steps →
+    asked_of (steps_of left) ++ asked_of_sessions (sessions ++ session ∷ []) ≡ asked_of (steps_of old) ++ asked_of_sessions sessions
+asked_of-dealt old left steps sessions session items same =
+    let Asked : Type 0 = List (List (ℕ × What)) in
+    let first : Asked = asked_of (steps_of left) in
+    let others : Asked = asked_of_sessions sessions in
+    let pushed : asked_of (steps_of old) ≡ first ++ asked_by steps.items ∷ [] =
+    ap (λ (xs : List (Vec Step Global)). asked_of (steps_of xs)) items ∙ ap asked_of (steps_of-push left steps) ∙ map_push asked_by (steps_of left) steps.items in
+    ap (λ (xs : Asked). first ++ xs) (asked_of_sessions-push sessions session ∙ ap (λ (v : Vec Step Global). asked_by v.items ∷ others) same)
+    ∙ sym (append_assoc first (asked_by steps.items ∷ []) others) ∙ ap (λ (xs : Asked). xs ++ others) (sym pushed)
+
+-- the last session's lines are kept next
+pub asked_of-kept : (lines : List (List Step)) (left : List Session) (session : Session) (old : List Session) → old ≡ left ++ session ∷ [] →
+    asked_of (lines ++ session.steps.items ∷ []) ++ asked_of_sessions left ≡ asked_of lines ++ asked_of_sessions old
+asked_of-kept lines left session old items =
+    let Asked : Type 0 = List (List (ℕ × What)) in
+    let asked : List (ℕ × What) = asked_by session.steps.items in
+    ap (λ (xs : Asked). xs ++ asked_of_sessions left) (map-append asked_by lines (session.steps.items ∷ [])) ∙ append_assoc (asked_of lines) (asked ∷ []) (asked_of_sessions left)
+    ∙ ap (λ (xs : Asked). asked_of lines ++ xs) (sym (asked_of_sessions-push left session) ∙ ap asked_of_sessions (sym items))
+
+-- ---- the session at a place, of which those before it have run
+
+-- what has not run yet is as it was
+pub not_run_yet : (old now : List Session) (k : ℕ) (d : Session) → k < length now → length now ≡ length old → drop k now ≡ drop k old →
+    (get_or now k d ≡ get_or old k d) × (drop (k + 1) now ≡ drop (k + 1) old)
+not_run_yet old now k d b l rest =
+    let here : drop k now ≡ get_or now k d ∷ drop (k + 1) now = rw add-one (drop-cons now k d b) in
+    let there : drop k old ≡ get_or old k d ∷ drop (k + 1) old = rw add-one (drop-cons old k d (omega arith)) in
+    (cc, cc)
+
+-- one more has run
+pub All-run_more : (P : Session → Type 0) (now : List Session) (k : ℕ) (session : Session) → k < length now → All P (take k now) → P session → All P (take (k + 1) (set now k session))
+All-run_more P now k session b h p = subst (All P) (sym (take_more_set now k session b)) (All-push P (take k now) session h p)
