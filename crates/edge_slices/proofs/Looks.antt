@@ -12,9 +12,9 @@ use Rattle.network_words.proofs.Edges.{edge_between-forward}
 use Rattle.network_words.proofs.Networks.{Refines-refl, Refines-trans, relation_between-forward, set-cases}
 use Rattle.network_words.proofs.Refinements.{sum-refines, sum-smaller}
 use Rattle.narrow_core.proofs.Sights.{seen-within}
-use Rattle.edge_table.specs.Opening.{PassState}
+use Rattle.edge_table.specs.Opening.{OpenState, PassState}
 use Rattle.edge_table.specs.Passes.{ReadsAll, Narrows, seen_between}
-use Rattle.edge_slices.specs.Slices.{Looks}
+use Rattle.edge_slices.specs.Slices.{IsLooking, LooksOn, Looks}
 
 pub ReadsAll-refl : (p : PassState) → ReadsAll p p
 ReadsAll-refl p = record { rest = refl; length_is = refl; within = Refines-refl p.actor.seen }
@@ -30,24 +30,39 @@ ReadsAll-trans a b c h k =
 
 -- ---- looking on
 
-pub Looks-none : (P : List ℕ → Type 0) (p : PassState) → P p.actor.seen → Looks P p p false
-Looks-none P p h = record { reads = ReadsAll-refl p; smaller = λ none. absurd (false≢true none); done = λ _. (refl, h) }
+pub LooksOn-refl : {t : OpenState} {p : PassState} {xs : List ℕ} → IsLooking t p xs → LooksOn t p p xs
+LooksOn-refl {t} {p} h = record { looking = h; reads = ReadsAll-refl p }
 
-pub Looks-then : (P Q R : List ℕ → Type 0) (a b c : PassState) (x y : Bool) → Looks P a b x → Looks Q b c y → ((words : List ℕ) → P words → Q words → R words) → Looks R a c (x || y)
-Looks-then P Q R a b c x y h k both = record {
-  reads = ReadsAll-trans a b c h.reads k.reads;
-  smaller = λ t. elim (or_cases x y t) [
-    | inl u ↦ (let first = h.smaller u in let second = sum-refines c.actor.seen b.actor.seen k.reads.length_is k.reads.within in omega arith)
-    | inr u ↦ (let first = sum-refines b.actor.seen a.actor.seen h.reads.length_is h.reads.within in let second = k.smaller u in omega arith)
-  ];
-  done = λ f.
-      let first = h.done (or_parts x y f).0 in
-      let second = k.done (or_parts x y f).1 in
-      (second.0 ∙ first.0, both c.actor.seen (subst (λ (p : PassState). P p.actor.seen) (sym second.0) first.1) second.1);
+pub LooksOn-trans : {t : OpenState} {a b c : PassState} {xs ys : List ℕ} → LooksOn t a b xs → LooksOn t b c ys → LooksOn t a c ys
+LooksOn-trans {t} {a} {b} {c} h k = record { looking = k.looking; reads = ReadsAll-trans a b c h.reads k.reads }
+
+pub Looks-none : {t : OpenState} {P : List ℕ → Type 0} {p : PassState} {xs : List ℕ} → IsLooking t p xs → P p.actor.seen → Looks t P p p xs false
+Looks-none looking h = record {
+  looks_on = LooksOn-refl looking;
+  smaller = λ none. absurd (false≢true none);
+  done = λ _. (refl, h);
 }
 
-pub Looks-weaken : (P Q : List ℕ → Type 0) (a b : PassState) (x : Bool) → Looks P a b x → ((words : List ℕ) → P words → Q words) → Looks Q a b x
-Looks-weaken P Q a b x h f = record { reads = h.reads; smaller = h.smaller; done = λ e. ((h.done e).0, f b.actor.seen (h.done e).1) }
+pub Looks-then : {t : OpenState} {P Q R : List ℕ → Type 0} {a b c : PassState} {xs ys : List ℕ} {x y : Bool} → Looks t P a b xs x → Looks t Q b c ys y →
+    ((words : List ℕ) → P words → Q words → R words) → Looks t R a c ys (x || y)
+Looks-then {t} {P} {Q} {R} {a} {b} {c} {xs} {ys} {x} {y} h k both =
+    let early = h.looks_on.reads in
+    let late = k.looks_on.reads in
+    record {
+      looks_on = LooksOn-trans h.looks_on k.looks_on;
+      smaller = λ some. elim (or_cases x y some) [
+        | inl u ↦ (let first = h.smaller u in let second = sum-refines c.actor.seen b.actor.seen late.length_is late.within in omega arith)
+        | inr u ↦ (let first = sum-refines b.actor.seen a.actor.seen early.length_is early.within in let second = k.smaller u in omega arith)
+      ];
+      done = λ f.
+          let first = h.done (or_parts x y f).0 in
+          let second = k.done (or_parts x y f).1 in
+          (second.0 ∙ first.0, both c.actor.seen (subst (λ (p : PassState). P p.actor.seen) (sym second.0) first.1) second.1);
+    }
+
+pub Looks-weaken : {t : OpenState} {P Q : List ℕ → Type 0} {a b : PassState} {xs : List ℕ} {x : Bool} → Looks t P a b xs x →
+    ((words : List ℕ) → P words → Q words) → Looks t Q a b xs x
+Looks-weaken {t} {P} {Q} {a} {b} h f = record { looks_on = h.looks_on; smaller = h.smaller; done = λ e. ((h.done e).0, f b.actor.seen (h.done e).1) }
 
 -- ---- one narrowing
 
@@ -57,9 +72,9 @@ same-set xs e v h = same_number_lists (slice_set xs e v) xs (length-set xs e v) 
   | inr t ↦ rw t.0 h
 ])
 
-pub Looks-narrow : (P : List ℕ → Type 0) (m : Algebra) (i j k : ℕ) (old new : PassState) (less : Bool) → i < k → Narrows m i j k old new →
-    IsTrue less ↔ (seen_between m new i k ≢ seen_between m old i k) → P new.actor.seen → Looks P old new less
-Looks-narrow P m i j k old new less o r changed p =
+pub Looks-narrow : {t : OpenState} {P : List ℕ → Type 0} (m : Algebra) (i j k : ℕ) (old new : PassState) {xs : List ℕ} (less : Bool) → IsLooking t new xs → i < k →
+    Narrows m i j k old new → IsTrue less ↔ (seen_between m new i k ≢ seen_between m old i k) → P new.actor.seen → Looks t P old new xs less
+Looks-narrow m i j k old new less looking o r changed p =
     let e = edge_between old.nodes i k in
     let v = bit_and (slice_index old.actor.seen e) (bit_and r.word (oriented m i k (composition m (seen_between m old i j) (seen_between m old j k)))) in
     let seen : new.actor.seen ≡ slice_set old.actor.seen e v = ap (λ (q : PassState). q.actor.seen) r.after in
@@ -73,7 +88,7 @@ Looks-narrow P m i j k old new less o r changed p =
     relation_between-forward m new.nodes new.actor.seen i k o ∙ ap (λ n. slice_index new.actor.seen (edge_at n i k)) nodes in
     let edge : e ≡ edge_at old.nodes i k = edge_between-forward old.nodes i k o in
     record {
-      reads = record { rest = rest; length_is = l; within = w };
+      looks_on = record { looking = looking; reads = record { rest = rest; length_is = l; within = w } };
       smaller = λ t. sum-smaller new.actor.seen old.actor.seen l w (λ same. changed.0 t (now ∙ ap (λ (ws : List ℕ). slice_index ws (edge_at old.nodes i k)) same ∙ sym was));
       done = λ f. elim (cases_eq (seen_between m new i k) (seen_between m old i k)) [
         | inl same ↦

@@ -20,11 +20,10 @@
 ghost use Rattle.std.specs.Prelude.{◌≡◌, ◌≢◌, ◌<◌, ◌≤◌, true, length, IfSome};
 ghost use Rattle.network_words.specs.Edge.{edge_count};
 ghost use Rattle.network_words.specs.Network.{IsNetwork};
-ghost use Rattle.network_words.specs.Closure.{IsRangeClosed};
-ghost use Rattle.edge_table.specs.Opening.{IsPassOf, algebra_of};
-ghost use Rattle.edge_table.specs.Passes.{ReadsAll};
+ghost use Rattle.edge_table.specs.Opening.{algebra_of};
 ghost use Rattle.closure_seq.specs.Copies.{IsOpenCopy, IsSettledCopy, TakesOver};
-ghost use Rattle.edge_slices.specs.Slices.{HasClash, IsSliceClosed, IsHeld, IsBegun};
+ghost use Rattle.edge_slices.specs.Slices.{HasClash, IsSliceClosed};
+ghost use Rattle.edge_slices.specs.Slices.{IsLooking, LooksOn, IsCopyFor, IsSettledFor, ComesTo, IsHeld, IsBegun};
 
 use crate::others::Others;
 use crate::slices::{is_clash, narrow_along};
@@ -51,12 +50,9 @@ enum Turn {
 
 /// Narrows along the triple of a note, if it is one.
 fn narrow_note<C: Compose>(table: &OpenNet, pass: &mut Pass, c: &C, snap: &mut Snapshot, note: Note)
-    requires pass { IsPassOf table.now pass.old }
+    requires looking { IsLooking table.now pass.old snap.old }
     requires calculus { C.algebra c.now ≡ algebra_of table.now.opening }
-    requires snap { snap.old ≡ pass.old.actor.seen }
-    ensures pass { IsPassOf table.now pass.new }
-    ensures snap { snap.new ≡ pass.new.actor.seen }
-    ensures reads { ReadsAll pass.old pass.new }
+    ensures looks_on { LooksOn table.now pass.old pass.new snap.new }
 {
     let nodes = table.nodes();
     let i = u32::from(note.i.min(note.k));
@@ -76,12 +72,9 @@ fn narrow_noted<C: Compose>(
     snap: &mut Snapshot,
     notes: &[Note],
 )
-    requires pass { IsPassOf table.now pass.old }
+    requires looking { IsLooking table.now pass.old snap.old }
     requires calculus { C.algebra c.now ≡ algebra_of table.now.opening }
-    requires snap { snap.old ≡ pass.old.actor.seen }
-    ensures pass { IsPassOf table.now pass.new }
-    ensures snap { snap.new ≡ pass.new.actor.seen }
-    ensures reads { ReadsAll pass.old pass.new }
+    ensures looks_on { LooksOn table.now pass.old pass.new snap.new }
 {
     for note in notes {
         narrow_note(table, pass, c, snap, *note);
@@ -96,12 +89,9 @@ fn follow<C: Compose>(
     snap: &mut Snapshot,
     copy: &mut SliceCopy,
 )
-    requires pass { IsPassOf table.now pass.old }
+    requires looking { IsLooking table.now pass.old snap.old }
     requires calculus { C.algebra c.now ≡ algebra_of table.now.opening }
-    requires snap { snap.old ≡ pass.old.actor.seen }
-    ensures pass { IsPassOf table.now pass.new }
-    ensures snap { snap.new ≡ pass.new.actor.seen }
-    ensures reads { ReadsAll pass.old pass.new }
+    ensures looks_on { LooksOn table.now pass.old pass.new snap.new }
     ensures copy { copy.new ≡ copy.old }
 {
     narrow_noted(table, pass, c, snap, copy.notes());
@@ -120,16 +110,12 @@ fn read_edge<C: Compose>(
     i: u32,
     k: u32,
 ) -> bool
-    requires pass { IsPassOf table.now pass.old }
-    requires snap { snap.old ≡ pass.old.actor.seen }
-    requires is_open { IsOpenCopy (C.algebra c.now) copy.old }
-    requires nodes { copy.old.slice.nodes ≡ table.now.opening.nodes }
+    requires looking { IsLooking table.now pass.old snap.old }
+    requires copy { IsCopyFor (C.algebra c.now) table.now.opening.nodes copy.old }
     requires edge { edge < edge_count table.now.opening.nodes }
     requires order { i < k }
     requires below { k < table.now.opening.nodes }
-    ensures pass { IsPassOf table.now pass.new }
-    ensures reads { ReadsAll pass.old pass.new }
-    ensures snap { snap.new ≡ pass.new.actor.seen }
+    ensures looks_on { LooksOn table.now pass.old pass.new snap.new }
     ensures copy { TakesOver (C.algebra c.now) copy.old copy.new }
 {
     let Some(set) = table.read_again(pass, snap, edge) else {
@@ -149,14 +135,10 @@ fn read_row<C: Compose>(
     copy: &mut SliceCopy,
     i: u32,
 ) -> bool
-    requires pass { IsPassOf table.now pass.old }
-    requires snap { snap.old ≡ pass.old.actor.seen }
-    requires is_open { IsOpenCopy (C.algebra c.now) copy.old }
-    requires nodes { copy.old.slice.nodes ≡ table.now.opening.nodes }
+    requires looking { IsLooking table.now pass.old snap.old }
+    requires copy { IsCopyFor (C.algebra c.now) table.now.opening.nodes copy.old }
     requires below { i < table.now.opening.nodes }
-    ensures pass { IsPassOf table.now pass.new }
-    ensures reads { ReadsAll pass.old pass.new }
-    ensures snap { snap.new ≡ pass.new.actor.seen }
+    ensures looks_on { LooksOn table.now pass.old pass.new snap.new }
     ensures copy { TakesOver (C.algebra c.now) copy.old copy.new }
 {
     let mut less = false;
@@ -179,14 +161,10 @@ fn read_rows<C: Compose>(
     first: u32,
     end: u32,
 ) -> bool
-    requires pass { IsPassOf table.now pass.old }
-    requires snap { snap.old ≡ pass.old.actor.seen }
-    requires is_open { IsOpenCopy (C.algebra c.now) copy.old }
-    requires nodes { copy.old.slice.nodes ≡ table.now.opening.nodes }
+    requires looking { IsLooking table.now pass.old snap.old }
+    requires copy { IsCopyFor (C.algebra c.now) table.now.opening.nodes copy.old }
     requires below { end ≤ table.now.opening.nodes }
-    ensures pass { IsPassOf table.now pass.new }
-    ensures reads { ReadsAll pass.old pass.new }
-    ensures snap { snap.new ≡ pass.new.actor.seen }
+    ensures looks_on { LooksOn table.now pass.old pass.new snap.new }
     ensures copy { TakesOver (C.algebra c.now) copy.old copy.new }
 {
     let mut less = false;
@@ -205,13 +183,9 @@ fn read_words<C: Compose>(
     snap: &mut Snapshot,
     copy: &mut SliceCopy,
 ) -> bool
-    requires pass { IsPassOf table.now pass.old }
-    requires snap { snap.old ≡ pass.old.actor.seen }
-    requires is_open { IsOpenCopy (C.algebra c.now) copy.old }
-    requires nodes { copy.old.slice.nodes ≡ table.now.opening.nodes }
-    ensures pass { IsPassOf table.now pass.new }
-    ensures reads { ReadsAll pass.old pass.new }
-    ensures snap { snap.new ≡ pass.new.actor.seen }
+    requires looking { IsLooking table.now pass.old snap.old }
+    requires copy { IsCopyFor (C.algebra c.now) table.now.opening.nodes copy.old }
+    ensures looks_on { LooksOn table.now pass.old pass.new snap.new }
     ensures copy { TakesOver (C.algebra c.now) copy.old copy.new }
 {
     let nodes = table.nodes();
@@ -232,13 +206,9 @@ fn read_if<C: Compose>(
     copy: &mut SliceCopy,
     wanted: bool,
 ) -> bool
-    requires pass { IsPassOf table.now pass.old }
-    requires snap { snap.old ≡ pass.old.actor.seen }
-    requires is_open { IsOpenCopy (C.algebra c.now) copy.old }
-    requires nodes { copy.old.slice.nodes ≡ table.now.opening.nodes }
-    ensures pass { IsPassOf table.now pass.new }
-    ensures reads { ReadsAll pass.old pass.new }
-    ensures snap { snap.new ≡ pass.new.actor.seen }
+    requires looking { IsLooking table.now pass.old snap.old }
+    requires copy { IsCopyFor (C.algebra c.now) table.now.opening.nodes copy.old }
+    ensures looks_on { LooksOn table.now pass.old pass.new snap.new }
     ensures copy { TakesOver (C.algebra c.now) copy.old copy.new }
 {
     wanted && read_words(table, pass, c, snap, copy)
@@ -254,13 +224,10 @@ fn sweep_rows<C: Compose>(
     copy: &mut SliceCopy,
     sweep: Sweep,
 ) -> bool
-    requires pass { IsPassOf table.now pass.old }
+    requires looking { IsLooking table.now pass.old snap.old }
     requires calculus { C.algebra c.now ≡ algebra_of table.now.opening }
-    requires snap { snap.old ≡ pass.old.actor.seen }
     requires is_open { IsOpenCopy (C.algebra c.now) copy.old }
-    ensures pass { IsPassOf table.now pass.new }
-    ensures reads { ReadsAll pass.old pass.new }
-    ensures snap { snap.new ≡ pass.new.actor.seen }
+    ensures looks_on { LooksOn table.now pass.old pass.new snap.new }
     ensures is_open { IsOpenCopy (C.algebra c.now) copy.new }
     ensures settled { result ≡ true → sweep ≡ Sweep.Whole → IsSettledCopy (C.algebra c.now) copy.new }
     ensures slice { copy.new.slice ≡ copy.old.slice }
@@ -287,15 +254,11 @@ fn sweep_slice<C: Compose>(
     copy: &mut SliceCopy,
     times: u32,
 ) -> bool
-    requires pass { IsPassOf table.now pass.old }
+    requires looking { IsLooking table.now pass.old snap.old }
     requires calculus { C.algebra c.now ≡ algebra_of table.now.opening }
-    requires snap { snap.old ≡ pass.old.actor.seen }
     requires length_is { length snap.old ≡ edge_count table.now.opening.nodes }
-    requires is_open { IsOpenCopy (C.algebra c.now) copy.old }
-    requires nodes { copy.old.slice.nodes ≡ table.now.opening.nodes }
-    ensures pass { IsPassOf table.now pass.new }
-    ensures reads { ReadsAll pass.old pass.new }
-    ensures snap { snap.new ≡ pass.new.actor.seen }
+    requires copy { IsCopyFor (C.algebra c.now) table.now.opening.nodes copy.old }
+    ensures looks_on { LooksOn table.now pass.old pass.new snap.new }
     ensures is_open { IsOpenCopy (C.algebra c.now) copy.new }
     ensures settled { result ≡ true → IsSettledCopy (C.algebra c.now) copy.new }
     ensures slice { copy.new.slice ≡ copy.old.slice }
@@ -331,13 +294,9 @@ fn read_on<C: Compose>(
     times: u32,
     others: &Others,
 ) -> bool
-    requires pass { IsPassOf table.now pass.old }
-    requires snap { snap.old ≡ pass.old.actor.seen }
-    requires is_open { IsOpenCopy (C.algebra c.now) copy.old }
-    requires nodes { copy.old.slice.nodes ≡ table.now.opening.nodes }
-    ensures pass { IsPassOf table.now pass.new }
-    ensures reads { ReadsAll pass.old pass.new }
-    ensures snap { snap.new ≡ pass.new.actor.seen }
+    requires looking { IsLooking table.now pass.old snap.old }
+    requires copy { IsCopyFor (C.algebra c.now) table.now.opening.nodes copy.old }
+    ensures looks_on { LooksOn table.now pass.old pass.new snap.new }
     ensures copy { TakesOver (C.algebra c.now) copy.old copy.new }
 {
     let mut quiet: u32 = 0;
@@ -368,19 +327,14 @@ fn take_turn<C: Compose>(
     times: u32,
     others: &Others,
 ) -> Turn
-    requires pass { IsPassOf table.now pass.old }
+    requires looking { IsLooking table.now pass.old snap.old }
     requires calculus { C.algebra c.now ≡ algebra_of table.now.opening }
-    requires snap { snap.old ≡ pass.old.actor.seen }
     requires length_is { length snap.old ≡ edge_count table.now.opening.nodes }
-    requires settled { IsSettledCopy (C.algebra c.now) copy.old }
-    requires nodes { copy.old.slice.nodes ≡ table.now.opening.nodes }
-    ensures pass { IsPassOf table.now pass.new }
-    ensures reads { ReadsAll pass.old pass.new }
-    ensures snap { snap.new ≡ pass.new.actor.seen }
+    requires copy { IsSettledFor (C.algebra c.now) table.now.opening.nodes copy.old }
+    ensures looks_on { LooksOn table.now pass.old pass.new snap.new }
     ensures length_is { length snap.new ≡ edge_count table.now.opening.nodes }
-    ensures closed { result ≡ Turn.Closed → IsRangeClosed (C.algebra c.now) table.now.opening.nodes snap.new
-        copy.old.slice.from copy.old.slice.to }
-    ensures clash { result ≡ Turn.Clash → HasClash table.now.opening.nodes snap.new }
+    ensures comes_to { ComesTo (C.algebra c.now) table.now.opening.nodes snap.new
+        copy.old.slice result }
     ensures settled { result ≢ Turn.Clash → result ≢ Turn.Unknown → IsSettledCopy (C.algebra c.now) copy.new }
     ensures slice { copy.new.slice ≡ copy.old.slice }
 {
@@ -422,18 +376,13 @@ fn take_turns<C: Compose>(
     times: u32,
     others: &Others,
 ) -> Turn
-    requires pass { IsPassOf table.now pass.old }
+    requires looking { IsLooking table.now pass.old snap.old }
     requires calculus { C.algebra c.now ≡ algebra_of table.now.opening }
-    requires snap { snap.old ≡ pass.old.actor.seen }
     requires length_is { length snap.old ≡ edge_count table.now.opening.nodes }
-    requires settled { IsSettledCopy (C.algebra c.now) copy.old }
-    requires nodes { copy.old.slice.nodes ≡ table.now.opening.nodes }
-    ensures pass { IsPassOf table.now pass.new }
-    ensures reads { ReadsAll pass.old pass.new }
-    ensures snap { snap.new ≡ pass.new.actor.seen }
-    ensures closed { result ≡ Turn.Closed → IsRangeClosed (C.algebra c.now) table.now.opening.nodes snap.new
-        copy.old.slice.from copy.old.slice.to }
-    ensures clash { result ≡ Turn.Clash → HasClash table.now.opening.nodes snap.new }
+    requires copy { IsSettledFor (C.algebra c.now) table.now.opening.nodes copy.old }
+    ensures looks_on { LooksOn table.now pass.old pass.new snap.new }
+    ensures comes_to { ComesTo (C.algebra c.now) table.now.opening.nodes snap.new
+        copy.old.slice result }
     ensures settled { result ≡ Turn.Closed → IsSettledCopy (C.algebra c.now) copy.new }
 {
     for _turn in 0..TURNS {
@@ -520,19 +469,14 @@ fn close_copy<C: Compose>(
     times: u32,
     others: &Others,
 ) -> Turn
-    requires pass { IsPassOf table.now pass.old }
+    requires looking { IsLooking table.now pass.old snap.old }
     requires calculus { C.algebra c.now ≡ algebra_of table.now.opening }
-    requires snap { snap.old ≡ pass.old.actor.seen }
     requires length_is { length snap.old ≡ edge_count table.now.opening.nodes }
-    requires is_open { IsOpenCopy (C.algebra c.now) copy.old }
+    requires copy { IsCopyFor (C.algebra c.now) table.now.opening.nodes copy.old }
     requires settled { is_settled ≡ true → IsSettledCopy (C.algebra c.now) copy.old }
-    requires nodes { copy.old.slice.nodes ≡ table.now.opening.nodes }
-    ensures pass { IsPassOf table.now pass.new }
-    ensures reads { ReadsAll pass.old pass.new }
-    ensures snap { snap.new ≡ pass.new.actor.seen }
-    ensures closed { result ≡ Turn.Closed → IsRangeClosed (C.algebra c.now) table.now.opening.nodes snap.new
-        copy.old.slice.from copy.old.slice.to }
-    ensures clash { result ≡ Turn.Clash → HasClash table.now.opening.nodes snap.new }
+    ensures looks_on { LooksOn table.now pass.old pass.new snap.new }
+    ensures comes_to { ComesTo (C.algebra c.now) table.now.opening.nodes snap.new
+        copy.old.slice result }
     ensures settled { result ≡ Turn.Closed → IsSettledCopy (C.algebra c.now) copy.new }
 {
     if !is_settled && !sweep_slice(table, pass, c, snap, copy, times) {
@@ -554,15 +498,12 @@ pub(crate) fn close_on_copy<C: Compose>(
     times: u32,
     others: &Others,
 ) -> bool
-    requires pass { IsPassOf table.now pass.old }
+    requires looking { IsLooking table.now pass.old snap.old }
     requires calculus { C.algebra c.now ≡ algebra_of table.now.opening }
-    requires snap { snap.old ≡ pass.old.actor.seen }
     requires network { IsNetwork (C.algebra c.now) table.now.opening.nodes snap.old }
     requires held { IsHeld (C.algebra c.now) held.old }
     requires below { to ≤ edge_count table.now.opening.nodes }
-    ensures pass { IsPassOf table.now pass.new }
-    ensures reads { ReadsAll pass.old pass.new }
-    ensures snap { snap.new ≡ pass.new.actor.seen }
+    ensures looks_on { LooksOn table.now pass.old pass.new snap.new }
     ensures held { IsHeld (C.algebra c.now) held.new }
     ensures closed { result ≡ true →
         IsSliceClosed (C.algebra c.now) table.now.opening.nodes snap.new from to }

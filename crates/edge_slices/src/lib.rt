@@ -1,7 +1,8 @@
 //! The edges of a slice of a table that others narrow too, closed by one pass.
 //!
 //! ```text
-//! close_slice(&table, &mut pass, &c, from, to, &mut snap);     // what the pass has seen is closed at each edge of the slice
+//! // what the pass has seen is then closed at each edge of the slice
+//! close_slice(&table, &mut pass, &c, from, to, &mut snap);
 //! ```
 #![tactic(auto)]
 

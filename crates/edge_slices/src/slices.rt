@@ -13,7 +13,7 @@ ghost use Rattle.network_words.specs.Closure.{IsPairClosed, IsClosedAt};
 ghost use Rattle.network_words.specs.Edge.{IsProperTriple};
 ghost use Rattle.edge_table.specs.Opening.{IsPassOf, algebra_of};
 ghost use Rattle.edge_table.specs.Passes.{ReadsAll};
-ghost use Rattle.edge_slices.specs.Slices.{HasClash, IsSliceClosed, Looks, IsListedClosed, IsHeld};
+ghost use Rattle.edge_slices.specs.Slices.{HasClash, IsSliceClosed, IsLooking, Looks, IsListedClosed, IsHeld};
 
 use crate::copies::close_on_copy;
 use crate::others::Others;
@@ -34,18 +34,15 @@ pub(crate) fn narrow_along<C: Compose>(
     j: u32,
     k: u32,
 ) -> bool
-    requires pass { IsPassOf table.now pass.old }
+    requires looking { IsLooking table.now pass.old snap.old }
     requires calculus { C.algebra c.now ≡ algebra_of table.now.opening }
-    requires snap { snap.old ≡ pass.old.actor.seen }
     requires order { i < k }
     requires below { k < table.now.opening.nodes }
     requires third { j < table.now.opening.nodes }
-    ensures pass { IsPassOf table.now pass.new }
-    ensures snap { snap.new ≡ pass.new.actor.seen }
-    ensures looks { Looks
+    ensures looks { Looks table.now
         (λ words. IsProperTriple table.now.opening.nodes i j k
         → IsClosedAt (C.algebra c.now) table.now.opening.nodes words i j k)
-        pass.old pass.new result }
+        pass.old pass.new snap.new result }
 {
     if j == i || j == k {
         return false;
@@ -62,16 +59,13 @@ fn narrow_edge<C: Compose>(
     i: u32,
     k: u32,
 ) -> bool
-    requires pass { IsPassOf table.now pass.old }
+    requires looking { IsLooking table.now pass.old snap.old }
     requires calculus { C.algebra c.now ≡ algebra_of table.now.opening }
-    requires snap { snap.old ≡ pass.old.actor.seen }
     requires order { i < k }
     requires below { k < table.now.opening.nodes }
-    ensures pass { IsPassOf table.now pass.new }
-    ensures snap { snap.new ≡ pass.new.actor.seen }
-    ensures looks { Looks
+    ensures looks { Looks table.now
         (λ words. IsPairClosed (C.algebra c.now) table.now.opening.nodes words i k)
-        pass.old pass.new result }
+        pass.old pass.new snap.new result }
 {
     let mut less = false;
     for j in 0..table.nodes() {
@@ -91,16 +85,13 @@ fn narrow_listed<C: Compose>(
     i: u32,
     k: u32,
 ) -> bool
-    requires pass { IsPassOf table.now pass.old }
+    requires looking { IsLooking table.now pass.old snap.old }
     requires calculus { C.algebra c.now ≡ algebra_of table.now.opening }
-    requires snap { snap.old ≡ pass.old.actor.seen }
     requires order { i < k }
     requires below { k < table.now.opening.nodes }
-    ensures pass { IsPassOf table.now pass.new }
-    ensures snap { snap.new ≡ pass.new.actor.seen }
-    ensures looks { Looks
+    ensures looks { Looks table.now
         (IsListedClosed (C.algebra c.now) table.now.opening.nodes from to i k)
-        pass.old pass.new result }
+        pass.old pass.new snap.new result }
 {
     let edge = edge_between(table.nodes(), i, k);
     if edge < from || to <= edge {
@@ -119,16 +110,13 @@ fn narrow_row<C: Compose>(
     to: u32,
     i: u32,
 ) -> bool
-    requires pass { IsPassOf table.now pass.old }
+    requires looking { IsLooking table.now pass.old snap.old }
     requires calculus { C.algebra c.now ≡ algebra_of table.now.opening }
-    requires snap { snap.old ≡ pass.old.actor.seen }
     requires below { i < table.now.opening.nodes }
-    ensures pass { IsPassOf table.now pass.new }
-    ensures snap { snap.new ≡ pass.new.actor.seen }
-    ensures looks { Looks
+    ensures looks { Looks table.now
         (λ words. (k : ℕ) → i < k → k < table.now.opening.nodes
         → IsListedClosed (C.algebra c.now) table.now.opening.nodes from to i k words)
-        pass.old pass.new result }
+        pass.old pass.new snap.new result }
 {
     let mut less = false;
     let nodes = table.nodes();
@@ -147,15 +135,12 @@ fn narrow_slice<C: Compose>(
     from: u32,
     to: u32,
 ) -> bool
-    requires pass { IsPassOf table.now pass.old }
+    requires looking { IsLooking table.now pass.old snap.old }
     requires calculus { C.algebra c.now ≡ algebra_of table.now.opening }
-    requires snap { snap.old ≡ pass.old.actor.seen }
-    ensures pass { IsPassOf table.now pass.new }
-    ensures snap { snap.new ≡ pass.new.actor.seen }
-    ensures looks { Looks
+    ensures looks { Looks table.now
         (λ words. (i k : ℕ) → i < k → k < table.now.opening.nodes
         → IsListedClosed (C.algebra c.now) table.now.opening.nodes from to i k words)
-        pass.old pass.new result }
+        pass.old pass.new snap.new result }
 {
     let mut less = false;
     for i in 0..table.nodes() {
@@ -181,14 +166,11 @@ fn narrow_again<C: Compose>(
     from: u32,
     to: u32,
 ) -> bool
-    requires pass { IsPassOf table.now pass.old }
+    requires looking { IsLooking table.now pass.old snap.old }
     requires calculus { C.algebra c.now ≡ algebra_of table.now.opening }
-    requires snap { snap.old ≡ pass.old.actor.seen }
-    ensures pass { IsPassOf table.now pass.new }
-    ensures snap { snap.new ≡ pass.new.actor.seen }
-    ensures looks { Looks
+    ensures looks { Looks table.now
         (λ words. IsSliceClosed (C.algebra c.now) table.now.opening.nodes words from to)
-        pass.old pass.new result }
+        pass.old pass.new snap.new result }
 {
     if is_clash(table.nodes(), snap.words()) {
         return false;

@@ -1,4 +1,4 @@
 use Rattle.edge_slices.proofs.copies.narrow_note.Goals as goal
 
-pub returns-clause-reads : goal.returns-clause-reads
-returns-clause-reads g c = c.narrow_along.ensures.looks.reads
+pub returns : goal.returns
+returns g c = record { looks_on = c.narrow_along.ensures.looks.looks_on }

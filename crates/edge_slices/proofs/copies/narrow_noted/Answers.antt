@@ -1,12 +1,8 @@
-use Rattle.edge_slices.proofs.Looks.{ReadsAll-refl, ReadsAll-trans}
+use Rattle.edge_slices.proofs.Looks.{LooksOn-refl, LooksOn-trans}
 use Rattle.edge_slices.proofs.copies.narrow_noted.Goals as goal
 
 pub loop-note-init : goal.loop-note-init
-loop-note-init g c = record { pass = c.requires.pass; snap = c.requires.snap; reads = ReadsAll-refl c.args.pass.now }
+loop-note-init g c = record { looks_on = LooksOn-refl c.requires.looking }
 
 pub loop-note-preserved : goal.loop-note-preserved
-loop-note-preserved g c = record {
-  pass = c.narrow_note.ensures.pass;
-  snap = c.narrow_note.ensures.snap;
-  reads = ReadsAll-trans _ _ _ c.loop-note.invariant.reads c.narrow_note.ensures.reads;
-}
+loop-note-preserved g c = record { looks_on = LooksOn-trans c.loop-note.invariant.looks_on c.narrow_note.ensures.looks_on }

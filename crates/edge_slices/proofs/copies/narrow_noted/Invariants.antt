@@ -1,11 +1,5 @@
-use Rattle.std.proofs.Common.{◌≡◌}
-use Rattle.edge_table.specs.Opening.{IsPassOf}
-use Rattle.edge_table.specs.Passes.{ReadsAll}
+use Rattle.edge_slices.specs.Slices.{LooksOn}
 use Rattle.edge_slices.proofs.copies.narrow_noted.Given as goal
 
 abbrev pub invariant-loop-note : goal.invariant-loop-note
-invariant-loop-note g l = record {
-  pass : IsPassOf l.table l.pass;
-  snap : l.snap ≡ l.pass.actor.seen;
-  reads : ReadsAll l.fn.pass l.pass;
-}
+invariant-loop-note g l = record { looks_on : LooksOn l.table l.fn.pass l.pass l.snap }

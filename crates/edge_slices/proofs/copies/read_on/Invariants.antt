@@ -1,13 +1,9 @@
-use Rattle.std.proofs.Common.{◌≡◌}
-use Rattle.edge_table.specs.Opening.{IsPassOf}
-use Rattle.edge_table.specs.Passes.{ReadsAll}
 use Rattle.closure_seq.specs.Copies.{TakesOver}
+use Rattle.edge_slices.specs.Slices.{LooksOn}
 use Rattle.edge_slices.proofs.copies.read_on.Given as goal
 
 abbrev pub invariant-loop-time : goal.invariant-loop-time
 invariant-loop-time g l = record {
-  pass : IsPassOf l.table l.pass;
-  reads : ReadsAll l.fn.pass l.pass;
-  snap : l.snap ≡ l.pass.actor.seen;
+  looks_on : LooksOn l.table l.fn.pass l.pass l.snap;
   copy : TakesOver (g.C.Compose.algebra l.c) l.fn.copy l.copy;
 }

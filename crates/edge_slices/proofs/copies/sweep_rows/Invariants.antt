@@ -1,17 +1,14 @@
 use Rattle.std.proofs.Common.{◌≡◌}
 use Rattle.edge_propagation.specs.declared.sweeping.Sweep.TheVariants as sweep
 use Rattle.closure_seq.specs.Copies.{IsOpenCopy, IsSweptCopy}
-use Rattle.edge_table.specs.Opening.{IsPassOf}
-use Rattle.edge_table.specs.Passes.{ReadsAll}
+use Rattle.edge_slices.specs.Slices.{LooksOn}
 use Rattle.edge_slices.proofs.copies.sweep_rows.Given as goal
 
 abbrev pub invariant-loop-i : goal.invariant-loop-i
 invariant-loop-i g l =
     let m = g.C.Compose.algebra l.c in
     record {
-      pass : IsPassOf l.table l.pass;
-      snap : l.snap ≡ l.pass.actor.seen;
-      reads : ReadsAll l.fn.pass l.pass;
+      looks_on : LooksOn l.table l.fn.pass l.pass l.snap;
       is_open : IsOpenCopy m l.copy;
       swept : l.sweep ≡ sweep.Whole → IsSweptCopy m l.copy l.i;
       slice : l.copy.slice ≡ l.fn.copy.slice;

@@ -1,7 +1,6 @@
-use Rattle.std.proofs.Common.{◌≡◌, ◌<◌, ℕ}
+use Rattle.std.proofs.Common.{◌<◌, ℕ}
 use Rattle.network_words.specs.Edge.{IsProperTriple}
 use Rattle.network_words.specs.Closure.{IsClosedAt}
-use Rattle.edge_table.specs.Opening.{IsPassOf}
 use Rattle.edge_slices.specs.Slices.{Looks}
 use Rattle.edge_slices.proofs.slices.narrow_edge.Given as goal
 
@@ -9,7 +8,5 @@ abbrev pub invariant-loop-j : goal.invariant-loop-j
 invariant-loop-j g l =
     let n = l.table.opening.nodes in
     record {
-      pass : IsPassOf l.table l.pass;
-      snap : l.snap ≡ l.pass.actor.seen;
-      looks : Looks (λ words. (j : ℕ) → j < l.j → IsProperTriple n l.i j l.k → IsClosedAt (g.C.Compose.algebra l.c) n words l.i j l.k) l.fn.pass l.pass l.less;
+      looks : Looks l.table (λ words. (j : ℕ) → j < l.j → IsProperTriple n l.i j l.k → IsClosedAt (g.C.Compose.algebra l.c) n words l.i j l.k) l.fn.pass l.pass l.snap l.less;
     }

@@ -1,5 +1,4 @@
-use Rattle.std.proofs.Common.{◌≡◌, ◌<◌, ℕ}
-use Rattle.edge_table.specs.Opening.{IsPassOf}
+use Rattle.std.proofs.Common.{◌<◌, ℕ}
 use Rattle.edge_slices.specs.Slices.{Looks, IsListedClosed}
 use Rattle.edge_slices.proofs.slices.narrow_slice.Given as goal
 
@@ -7,7 +6,5 @@ abbrev pub invariant-loop-i : goal.invariant-loop-i
 invariant-loop-i g l =
     let n = l.table.opening.nodes in
     record {
-      pass : IsPassOf l.table l.pass;
-      snap : l.snap ≡ l.pass.actor.seen;
-      looks : Looks (λ words. (i : ℕ) → i < l.i → (k : ℕ) → i < k → k < n → IsListedClosed (g.C.Compose.algebra l.c) n l.from l.to i k words) l.fn.pass l.pass l.less;
+      looks : Looks l.table (λ words. (i : ℕ) → i < l.i → (k : ℕ) → i < k → k < n → IsListedClosed (g.C.Compose.algebra l.c) n l.from l.to i k words) l.fn.pass l.pass l.snap l.less;
     }
