@@ -1,5 +1,5 @@
 -- Lists of sessions: what they ask for, dealt out, run and gathered again.
-use Rattle.std.proofs.Common.{◌≡◌, ℕ, zero, suc, ◌+◌, ◌<◌, List, [], ◌∷◌, ◌++◌, length, take, drop, get_or, set, refl, sym, ap, ◌∙◌, subst, arith, true, false, MatchBool, append_assoc, length-append, add-one, drop-cons, Vec, Global}
+use Rattle.std.proofs.Common.{◌≡◌, ℕ, zero, suc, ◌+◌, ◌<◌, List, [], ◌∷◌, ◌++◌, length, take, drop, get_or, set, refl, sym, ap, ◌∙◌, subst, arith, append_assoc, length-append, add-one, drop-cons, Vec, Global}
 use Rattle.std.specs.List.{All}
 use Rattle.std.proofs.lemmas.List.{append-nil, map_push, map-append, take_more_set}
 use Rattle.std.proofs.lemmas.List.Elements.{All-push}

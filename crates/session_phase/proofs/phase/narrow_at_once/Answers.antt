@@ -2,7 +2,6 @@ use Rattle.std.proofs.Common.{◌≡◌, length, ap, sym, subst, ◌∙◌, arit
 use Rattle.std.specs.List.{All}
 use Rattle.std.proofs.lemmas.Grind.{common_steps}
 use Rattle.std.proofs.lemmas.List.Elements.{All-weaker}
-use Rattle.calculus_table.specs.Algebra.{Algebra}
 use Rattle.narrow_core.specs.Bound.{IsWithinFact}
 use Rattle.edge_table.specs.Opening.{algebra_of}
 use Rattle.edge_table.specs.Passes.{AreClosedWords}

@@ -1,8 +1,5 @@
 -- The network of the newest version is closed, and so is the one with full sets.
-use Rattle.std.proofs.Common.{◌≡◌, ℕ, List, [], replicate, ap, sym, subst, ◌∙◌}
-use Rattle.std.specs.Prelude.{IfOk, Ok, Err, Result}
-use Rattle.calculus_table.specs.Algebra.{Algebra}
-use Rattle.calculus_table.specs.Calculus.{IsCalculus}
+use Rattle.std.proofs.Common.{◌≡◌, ℕ, List, [], replicate, ap, ◌∙◌}
 use Rattle.calculus_table.specs.Composition.{full_of}
 use Rattle.network_words.specs.Edge.{edge_count}
 use Rattle.network_words.specs.Network.{Network, IsNetwork}
