@@ -8,6 +8,7 @@ use Rattle.network_words.specs.declared.fact.Fact.{Fact}
 use Rattle.network_words.specs.Edge.{edge_count}
 use Rattle.network_words.specs.Network.{IsNetwork, Refines}
 use Rattle.network_words.specs.Closure.{IsClosed}
+use Rattle.closure_seq.specs.Paths.{IsClosedNetwork}
 use Rattle.narrow_core.specs.Actor.{ActorState, fresh}
 use Rattle.narrow_core.specs.Bound.{IsWithinFact}
 use Rattle.edge_table.specs.Opening.{OpenState, IsPassOf, algebra_of}
@@ -133,6 +134,29 @@ pub record HasWorked (m : Algebra) (table : OpenState) (piece : Piece) : Type 0 
   pub weight : piece.pass.actor.weight ≡ 1
   pub facts : piece.pass.actor.mine ≡ []
   pub held : IsHeld m piece.copy
+
+-- sessions that may be run, on a table over a network
+pub record CanRun (m : Algebra) (table : OpenState) (before : List Session) : Type 0 where
+  pub calculus : m ≡ algebra_of table.opening
+  pub opening : IsNetwork m table.opening.nodes table.opening.words
+  pub sessions : All (IsSession m table) before
+
+-- the same sessions, all run
+pub record HaveRun (m : Algebra) (table : OpenState) (before after : List Session) : Type 0 where
+  pub run : All (HasRun m table) after
+  pub asked : asked_of_sessions after ≡ asked_of_sessions before
+
+-- pieces that may work, on copies of the closed network of these words
+pub record CanWork (m : Algebra) (table : OpenState) (words : List ℕ) (before : List Piece) : Type 0 where
+  pub calculus : m ≡ algebra_of table.opening
+  pub closed : IsClosedNetwork m table.opening.nodes words
+  pub some : 0 < length before
+  pub pieces : All (IsPiece table) before
+
+-- as many pieces, after their work
+pub record HaveWorked (m : Algebra) (table : OpenState) (before after : List Piece) : Type 0 where
+  pub worked : All (HasWorked m table) after
+  pub count : length after ≡ length before
 
 -- ---- what comes of it
 

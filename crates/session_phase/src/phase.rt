@@ -23,7 +23,7 @@ ghost use Rattle.edge_table.specs.Opening.{algebra_of};
 ghost use Rattle.closure_workers.specs.Pieces.{AreHeld};
 ghost use Rattle.session_replies.specs.Replies.{AreShown};
 ghost use Rattle.session_phase.specs.Phase.{IsStepFor, steps_of, shown_by, asked_of, facts_stated, AreShownAbove};
-ghost use Rattle.session_phase.specs.Phase.{IsSession, HasRun, asked_of_sessions, IsPiece, HasWorked};
+ghost use Rattle.session_phase.specs.Phase.{CanRun, HaveRun, CanWork, HaveWorked};
 ghost use Rattle.session_phase.specs.Phase.{AreNarrowed, IsClosureWithin};
 
 use crate::pieces::{Piece, deal_pieces, gather_pieces, run_pieces, sharing};
@@ -141,17 +141,10 @@ fn run_at_once<R: Threads + Sync, C: Compose + Sync, G: Gate + Sync>(
     sessions: Vec<Session>,
     pieces: Vec<Piece>,
 ) -> (Vec<Session>, Vec<Piece>)
-    requires calculus { C.algebra c.now ≡ algebra_of table.now.opening }
-    requires opening { IsNetwork (C.algebra c.now) table.now.opening.nodes table.now.opening.words }
-    requires closed_network { IsNetwork (C.algebra c.now) table.now.opening.nodes closed.now }
-    requires closed { IsClosed (C.algebra c.now) table.now.opening.nodes closed.now }
-    requires sessions { All (IsSession (C.algebra c.now) table.now) sessions.items }
-    requires some { 0 < length pieces.items }
-    requires pieces { All (IsPiece table.now) pieces.items }
-    ensures run { All (HasRun (C.algebra c.now) table.now) result.0.items }
-    ensures asked { asked_of_sessions result.0.items ≡ asked_of_sessions sessions.items }
-    ensures worked { All (HasWorked (C.algebra c.now) table.now) result.1.items }
-    ensures count { length result.1.items ≡ length pieces.items }
+    requires run { CanRun (C.algebra c.now) table.now sessions.items }
+    requires work { CanWork (C.algebra c.now) table.now closed.now pieces.items }
+    ensures run { HaveRun (C.algebra c.now) table.now sessions.items result.0.items }
+    ensures worked { HaveWorked (C.algebra c.now) table.now pieces.items result.1.items }
 {
     if gate.is_open() {
         return run_in_turn(rt, table, c, gate, closed, points, sessions, pieces);
@@ -163,17 +156,10 @@ fn run_at_once<R: Threads + Sync, C: Compose + Sync, G: Gate + Sync>(
     let rest = move || -> (Vec<Session>, Vec<Piece>)
         requires { IsSync R.row × IsSync C.row × IsSync G.row
             × (0 < threads)
-            × (C.algebra c.now ≡ algebra_of table.now.opening)
-            × IsNetwork (C.algebra c.now) table.now.opening.nodes table.now.opening.words
-            × IsNetwork (C.algebra c.now) table.now.opening.nodes closed.now
-            × IsClosed (C.algebra c.now) table.now.opening.nodes closed.now
-            × All (IsSession (C.algebra c.now) table.now) sessions.items
-            × (0 < length pieces.items)
-            × All (IsPiece table.now) pieces.items }
-        ensures { All (HasRun (C.algebra c.entry.now) table.entry.now) result.0.items
-            × (asked_of_sessions result.0.items ≡ asked_of_sessions sessions.items)
-            × All (HasWorked (C.algebra c.entry.now) table.entry.now) result.1.items
-            × (length result.1.items ≡ length pieces.items) }
+            × CanRun (C.algebra c.now) table.now sessions.items
+            × CanWork (C.algebra c.now) table.now closed.now pieces.items }
+        ensures { HaveRun (C.algebra c.entry.now) table.entry.now sessions.items result.0.items
+            × HaveWorked (C.algebra c.entry.now) table.entry.now pieces.items result.1.items }
     {
         run_both(
             rt,
@@ -202,17 +188,10 @@ fn run_in_turn<R: Threads + Sync, C: Compose + Sync, G: Gate + Sync>(
     mut sessions: Vec<Session>,
     mut pieces: Vec<Piece>,
 ) -> (Vec<Session>, Vec<Piece>)
-    requires calculus { C.algebra c.now ≡ algebra_of table.now.opening }
-    requires opening { IsNetwork (C.algebra c.now) table.now.opening.nodes table.now.opening.words }
-    requires closed_network { IsNetwork (C.algebra c.now) table.now.opening.nodes closed.now }
-    requires closed { IsClosed (C.algebra c.now) table.now.opening.nodes closed.now }
-    requires sessions { All (IsSession (C.algebra c.now) table.now) sessions.items }
-    requires some { 0 < length pieces.items }
-    requires pieces { All (IsPiece table.now) pieces.items }
-    ensures run { All (HasRun (C.algebra c.now) table.now) result.0.items }
-    ensures asked { asked_of_sessions result.0.items ≡ asked_of_sessions sessions.items }
-    ensures worked { All (HasWorked (C.algebra c.now) table.now) result.1.items }
-    ensures count { length result.1.items ≡ length pieces.items }
+    requires run { CanRun (C.algebra c.now) table.now sessions.items }
+    requires work { CanWork (C.algebra c.now) table.now closed.now pieces.items }
+    ensures run { HaveRun (C.algebra c.now) table.now sessions.items result.0.items }
+    ensures worked { HaveWorked (C.algebra c.now) table.now pieces.items result.1.items }
 {
     run_rest(table, c, points, sessions.as_mut_slice());
     run_pieces(rt, table, c, gate, closed, pieces.as_mut_slice());
@@ -231,38 +210,23 @@ fn run_both<R: Threads + Sync, C: Compose + Sync, G: Gate + Sync>(
     sessions: Vec<Session>,
     mut pieces: Vec<Piece>,
 ) -> (Vec<Session>, Vec<Piece>)
-    requires calculus { C.algebra c.now ≡ algebra_of table.now.opening }
-    requires opening { IsNetwork (C.algebra c.now) table.now.opening.nodes table.now.opening.words }
-    requires closed_network { IsNetwork (C.algebra c.now) table.now.opening.nodes closed.now }
-    requires closed { IsClosed (C.algebra c.now) table.now.opening.nodes closed.now }
-    requires sessions { All (IsSession (C.algebra c.now) table.now) sessions.items }
-    requires some { 0 < length pieces.items }
-    requires pieces { All (IsPiece table.now) pieces.items }
-    ensures run { All (HasRun (C.algebra c.now) table.now) result.0.items }
-    ensures asked { asked_of_sessions result.0.items ≡ asked_of_sessions sessions.items }
-    ensures worked { All (HasWorked (C.algebra c.now) table.now) result.1.items }
-    ensures count { length result.1.items ≡ length pieces.items }
+    requires run { CanRun (C.algebra c.now) table.now sessions.items }
+    requires work { CanWork (C.algebra c.now) table.now closed.now pieces.items }
+    ensures run { HaveRun (C.algebra c.now) table.now sessions.items result.0.items }
+    ensures worked { HaveWorked (C.algebra c.now) table.now pieces.items result.1.items }
 {
     let work = move || -> Vec<Piece>
         requires { IsSync R.row × IsSync C.row × IsSync G.row
-            × (C.algebra c.now ≡ algebra_of table.now.opening)
-            × IsNetwork (C.algebra c.now) table.now.opening.nodes closed.now
-            × IsClosed (C.algebra c.now) table.now.opening.nodes closed.now
-            × (0 < length pieces.items)
-            × All (IsPiece table.now) pieces.items }
-        ensures { All (HasWorked (C.algebra c.entry.now) table.entry.now) result.items
-            × (length result.items ≡ length pieces.items) }
+            × CanWork (C.algebra c.now) table.now closed.now pieces.items }
+        ensures { HaveWorked (C.algebra c.entry.now) table.entry.now pieces.items result.items }
     {
         run_pieces(rt, table, c, gate, closed, pieces.as_mut_slice());
         pieces
     };
     let run = move || -> Vec<Session>
         requires { IsSync R.row × IsSync C.row × IsSync G.row
-            × (C.algebra c.now ≡ algebra_of table.now.opening)
-            × IsNetwork (C.algebra c.now) table.now.opening.nodes table.now.opening.words
-            × All (IsSession (C.algebra c.now) table.now) sessions.items }
-        ensures { All (HasRun (C.algebra c.entry.now) table.entry.now) result.items
-            × (asked_of_sessions result.items ≡ asked_of_sessions sessions.items) }
+            × CanRun (C.algebra c.now) table.now sessions.items }
+        ensures { HaveRun (C.algebra c.entry.now) table.entry.now sessions.items result.items }
     { run_sessions(rt, table, c, gate, points, threads, sessions) };
     let (pieces, sessions) = thread::join(rt, work, run);
     (sessions, pieces)

@@ -12,9 +12,10 @@ ghost use Rattle.network_words.specs.Network.{IsNetwork};
 ghost use Rattle.network_words.specs.Closure.{IsClosed};
 ghost use Rattle.narrow_core.specs.Actor.{fresh};
 ghost use Rattle.edge_table.specs.Opening.{IsPassOf, algebra_of};
+ghost use Rattle.closure_seq.specs.Paths.{IsClosedNetwork};
 ghost use Rattle.edge_slices.specs.Slices.{IsHeld};
 ghost use Rattle.closure_workers.specs.Pieces.{AreHeld};
-ghost use Rattle.session_phase.specs.Phase.{IsPiece, HasWorked};
+ghost use Rattle.session_phase.specs.Phase.{IsPiece, HasWorked, CanWork, HaveWorked};
 
 use calculus_table::{Compose, Memory};
 use closure_seq::SliceCopy;
@@ -131,8 +132,7 @@ fn run_piece<C: Compose, G: Gate>(
     piece: &mut Piece,
 )
     requires calculus { C.algebra c.now ≡ algebra_of table.now.opening }
-    requires network { IsNetwork (C.algebra c.now) table.now.opening.nodes closed.now }
-    requires closed { IsClosed (C.algebra c.now) table.now.opening.nodes closed.now }
+    requires closed { IsClosedNetwork (C.algebra c.now) table.now.opening.nodes closed.now }
     requires piece { IsPiece table.now piece.old }
     ensures { HasWorked (C.algebra c.now) table.now piece.new }
 {
@@ -162,18 +162,12 @@ pub(crate) fn run_pieces<R: Threads + Sync, C: Compose + Sync, G: Gate + Sync>(
     closed: &[u64],
     pieces: &mut [Piece],
 )
-    requires calculus { C.algebra c.now ≡ algebra_of table.now.opening }
-    requires network { IsNetwork (C.algebra c.now) table.now.opening.nodes closed.now }
-    requires closed { IsClosed (C.algebra c.now) table.now.opening.nodes closed.now }
-    requires some { 0 < length pieces.old }
-    requires pieces { All (IsPiece table.now) pieces.old }
-    ensures worked { All (HasWorked (C.algebra c.now) table.now) pieces.new }
-    ensures count { length pieces.new ≡ length pieces.old }
+    requires { CanWork (C.algebra c.now) table.now closed.now pieces.old }
+    ensures { HaveWorked (C.algebra c.now) table.now pieces.old pieces.new }
 {
     let run = |_: usize, piece: &mut Piece|
         requires { (C.algebra c.now ≡ algebra_of table.now.opening)
-            × IsNetwork (C.algebra c.now) table.now.opening.nodes closed.now
-            × IsClosed (C.algebra c.now) table.now.opening.nodes closed.now
+            × IsClosedNetwork (C.algebra c.now) table.now.opening.nodes closed.now
             × IsPiece table.now piece.old }
         ensures { HasWorked (C.algebra c.entry.now) table.entry.now piece.new }
     { run_piece(table, c, gate, closed, piece) };

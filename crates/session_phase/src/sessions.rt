@@ -13,7 +13,7 @@ ghost use Rattle.network_words.specs.Network.{IsNetwork};
 ghost use Rattle.narrow_core.specs.Actor.{fresh};
 ghost use Rattle.edge_table.specs.Opening.{IsPassOf, algebra_of};
 ghost use Rattle.session_phase.specs.Phase.{IsStepFor, steps_of, asked_by, asked_of, facts_stated, AreShownAbove};
-ghost use Rattle.session_phase.specs.Phase.{IsSession, HasRun, asked_of_sessions};
+ghost use Rattle.session_phase.specs.Phase.{IsSession, HasRun, asked_of_sessions, CanRun, HaveRun};
 
 use crate::points::Points;
 use crate::steps::{Step, take_steps};
@@ -149,9 +149,7 @@ fn run_admitted<C: Compose>(table: &OpenNet, c: &C, points: &Points, session: &m
 
 /// Runs the sessions that may begin. Returns whether one was run.
 fn run_turn<C: Compose>(table: &OpenNet, c: &C, points: &Points, sessions: &mut [Session]) -> bool
-    requires calculus { C.algebra c.now ≡ algebra_of table.now.opening }
-    requires opening { IsNetwork (C.algebra c.now) table.now.opening.nodes table.now.opening.words }
-    requires sessions { All (IsSession (C.algebra c.now) table.now) sessions.old }
+    requires { CanRun (C.algebra c.now) table.now sessions.old }
     ensures sessions { All (IsSession (C.algebra c.now) table.now) sessions.new }
     ensures asked { asked_of_sessions sessions.new ≡ asked_of_sessions sessions.old }
 {
@@ -170,9 +168,7 @@ fn run_turns<C: Compose>(
     sessions: &mut [Session],
     most: u64,
 )
-    requires calculus { C.algebra c.now ≡ algebra_of table.now.opening }
-    requires opening { IsNetwork (C.algebra c.now) table.now.opening.nodes table.now.opening.words }
-    requires sessions { All (IsSession (C.algebra c.now) table.now) sessions.old }
+    requires { CanRun (C.algebra c.now) table.now sessions.old }
     ensures sessions { All (IsSession (C.algebra c.now) table.now) sessions.new }
     ensures asked { asked_of_sessions sessions.new ≡ asked_of_sessions sessions.old }
 {
@@ -207,11 +203,8 @@ pub(crate) fn run_rest<C: Compose>(
     points: &Points,
     sessions: &mut [Session],
 )
-    requires calculus { C.algebra c.now ≡ algebra_of table.now.opening }
-    requires opening { IsNetwork (C.algebra c.now) table.now.opening.nodes table.now.opening.words }
-    requires sessions { All (IsSession (C.algebra c.now) table.now) sessions.old }
-    ensures run { All (HasRun (C.algebra c.now) table.now) sessions.new }
-    ensures asked { asked_of_sessions sessions.new ≡ asked_of_sessions sessions.old }
+    requires { CanRun (C.algebra c.now) table.now sessions.old }
+    ensures { HaveRun (C.algebra c.now) table.now sessions.old sessions.new }
 {
     for session in sessions.iter_mut() {
         run_session(table, c, session);
@@ -231,11 +224,8 @@ fn run_helped<R: Threads + Sync, C: Compose + Sync, G: Gate + Sync>(
     threads: u32,
     mut sessions: Vec<Session>,
 ) -> Vec<Session>
-    requires calculus { C.algebra c.now ≡ algebra_of table.now.opening }
-    requires opening { IsNetwork (C.algebra c.now) table.now.opening.nodes table.now.opening.words }
-    requires sessions { All (IsSession (C.algebra c.now) table.now) sessions.items }
-    ensures run { All (HasRun (C.algebra c.now) table.now) result.items }
-    ensures asked { asked_of_sessions result.items ≡ asked_of_sessions sessions.items }
+    requires { CanRun (C.algebra c.now) table.now sessions.items }
+    ensures { HaveRun (C.algebra c.now) table.now sessions.items result.items }
 {
     if threads == 0 {
         points.pass_begins(gate);
@@ -248,11 +238,8 @@ fn run_helped<R: Threads + Sync, C: Compose + Sync, G: Gate + Sync>(
     let run = move || -> Vec<Session>
         requires { IsSync R.row × IsSync C.row × IsSync G.row
             × (0 < threads)
-            × (C.algebra c.now ≡ algebra_of table.now.opening)
-            × IsNetwork (C.algebra c.now) table.now.opening.nodes table.now.opening.words
-            × All (IsSession (C.algebra c.now) table.now) sessions.items }
-        ensures { All (HasRun (C.algebra c.entry.now) table.entry.now) result.items
-            × (asked_of_sessions result.items ≡ asked_of_sessions sessions.items) }
+            × CanRun (C.algebra c.now) table.now sessions.items }
+        ensures { HaveRun (C.algebra c.entry.now) table.entry.now sessions.items result.items }
     { run_sessions(rt, table, c, gate, points, threads - 1, sessions) };
     let (_, ran) = thread::join(rt, pass, run);
     ran
@@ -271,11 +258,8 @@ pub(crate) fn run_sessions<R: Threads + Sync, C: Compose + Sync, G: Gate + Sync>
     threads: u32,
     mut sessions: Vec<Session>,
 ) -> Vec<Session>
-    requires calculus { C.algebra c.now ≡ algebra_of table.now.opening }
-    requires opening { IsNetwork (C.algebra c.now) table.now.opening.nodes table.now.opening.words }
-    requires sessions { All (IsSession (C.algebra c.now) table.now) sessions.items }
-    ensures run { All (HasRun (C.algebra c.now) table.now) result.items }
-    ensures asked { asked_of_sessions result.items ≡ asked_of_sessions sessions.items }
+    requires { CanRun (C.algebra c.now) table.now sessions.items }
+    ensures { HaveRun (C.algebra c.now) table.now sessions.items result.items }
 {
     run_turns(table, c, points, sessions.as_mut_slice(), HELD_TURNS);
     if have_all_run(&sessions) && points.are_gone_to(HELD_TURNS) {

@@ -11,7 +11,7 @@ use Rattle.session_phase.proofs.SessionLists.{AreShownAbove-less, length-asked_o
 use Rattle.session_phase.proofs.phase.narrow_at_once.Goals as goal
 
 pub returns-clause-same : goal.returns-clause-same
-returns-clause-same g c = c.in_ok-pass-2.ensures.asked ∙ c.run_at_once-sessions.ensures.asked ∙ c.in_ok-rest.ensures.asked
+returns-clause-same g c = c.in_ok-pass-2.ensures.asked ∙ c.run_at_once-sessions.ensures.run.asked ∙ c.in_ok-rest.ensures.asked
 
 pub returns-clause-narrowed : goal.returns-clause-narrowed
 returns-clause-narrowed g c =
@@ -42,9 +42,9 @@ returns-clause-shown g c =
 pub close-requires-clause-whole : goal.close-requires-clause-whole
 close-requires-clause-whole g c =
     let ran : length c.run_at_once-sessions.result.0.items ≡ length c.args.lines.items =
-    sym (length-asked_of_sessions c.run_at_once-sessions.result.0.items) ∙ ap length c.run_at_once-sessions.ensures.asked
+    sym (length-asked_of_sessions c.run_at_once-sessions.result.0.items) ∙ ap length c.run_at_once-sessions.ensures.run.asked
     ∙ length-asked_of_sessions c.in_ok-rest.sessions.items ∙ c.in_ok-rest.ensures.count in
-    let worked : length c.run_at_once-sessions.result.1.items ≡ c.args.count = c.run_at_once-sessions.ensures.count ∙ c.in_ok-home.ensures.count in
+    let worked : length c.run_at_once-sessions.result.1.items ≡ c.args.count = c.run_at_once-sessions.ensures.worked.count ∙ c.in_ok-home.ensures.count in
     let sessions = c.in_ok-pass-2.ensures.weight in
     let pieces = c.in_ok-pass.ensures.weight in
     let opening = ap (λ (o : Opening). o.weight) c.in_ok-table.ensures.table in

@@ -33,8 +33,11 @@ loop-session-preserved g c =
       asked = asked_of_sessions-set now k new d below c.run_session.ensures.asked ∙ h.asked;
     }
 
-pub returns-clause-run : goal.returns-clause-run
-returns-clause-run g c =
+pub returns : goal.returns
+returns g c =
     let h = c.loop-session.invariant in
     let now = c.loop-session.sessions in
-    subst (All (HasRun (g.C.Compose.algebra c.args.c.now) c.args.table.now)) (take_all c.loop-session.session-index now (let t = c.loop-session-test.false in let l = h.size in omega arith)) h.run
+    record {
+      run = subst (All (HasRun (g.C.Compose.algebra c.args.c.now) c.args.table.now)) (take_all c.loop-session.session-index now (let t = c.loop-session-test.false in let l = h.size in omega arith)) h.run;
+      asked = h.asked;
+    }
