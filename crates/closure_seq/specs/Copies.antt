@@ -1,5 +1,5 @@
 -- A copy of a network's sets, on which the edges of a slice are closed.
-use Rattle.std.specs.Prelude.{◌≡◌, ℕ, ◌*◌, ◌<◌, ◌≤◌, List}
+use Rattle.std.specs.Prelude.{◌≡◌, ℕ, ◌*◌, ◌<◌, ◌≤◌, ◌↔◌, List}
 use Rattle.calculus_table.specs.Algebra.{Algebra}
 use Rattle.calculus_table.specs.Calculus.{IsCalculus}
 use Rattle.network_words.specs.Edge.{edge_at}
@@ -29,6 +29,10 @@ pub record AreRowsOf (n from to : ℕ) (rows : Span) : Type 0 where
   pub each : (i k : ℕ) → i < k → k < n → from ≤ edge_at n i k → edge_at n i k < to → IsAmong rows i
   pub order : rows.first ≤ rows.end
   pub below : rows.end ≤ n
+
+-- and they are all the edges of the rows
+abbrev pub AreEdgesOf : ℕ → ℕ → ℕ → Span → Type 0
+AreEdgesOf n from to rows = (i k : ℕ) → i < k → k < n → IsAmong rows i ↔ (from ≤ edge_at n i k) × (edge_at n i k < to)
 
 -- a copy that has the sets of a network
 pub record IsCopyOf (m : Algebra) (words : List ℕ) (copy : CopyState) : Type 0 where

@@ -13,10 +13,11 @@ ghost use Rattle.std.specs.Prelude.{◌≡◌, ◌*◌, ◌<◌, ◌≤◌, leng
 ghost use Rattle.network_words.specs.Edge.{edge_count, IsProperPair};
 ghost use Rattle.network_words.specs.declared.TheConstants.{MAX_NODES};
 ghost use Rattle.compose_fast.specs.Planes.{AreBaseTables};
-ghost use Rattle.edge_propagation.specs.Propagation.{AreConverses, IsReady, IsRefinement, IsStep, IsSettled, IsRowSettled};
+ghost use Rattle.edge_propagation.specs.Propagation.{AreConverses, IsReady, IsRefinement, IsStep};
+ghost use Rattle.edge_propagation.specs.Propagation.{IsSettled, IsRowSettled};
 ghost use Rattle.edge_propagation.specs.Propagation.{IsPlanes, IsMet, IsPairMet, AreRowsMet};
 
-use crate::rows::rows_of;
+use crate::rows::{edges_of, rows_of};
 use calculus_table::{Compose, Memory, Rel, lawful};
 use compose_fast::Tables;
 use edge_propagation::{
@@ -146,14 +147,15 @@ impl Model for SliceCopy {
 }
 
 impl SliceCopy {
-    ghost use Rattle.std.specs.Prelude.{◌≡◌, ◌+◌, ◌<◌, ◌≤◌, length, IsTrue, IfOk};
+    ghost use Rattle.std.specs.Prelude.{◌≡◌, ◌+◌, ◌-◌, ◌<◌, ◌≤◌, length, IsTrue, IfOk};
     ghost use Rattle.calculus_table.specs.Algebra.{Algebra};
     ghost use Rattle.network_words.specs.Edge.{edge_count, IsProperPair};
     ghost use Rattle.network_words.specs.Network.{IsNetwork};
     ghost use Rattle.network_words.specs.Closure.{IsClosed, IsRangeClosed};
     ghost use Rattle.network_words.specs.declared.TheConstants.{MAX_NODES};
     ghost use Rattle.edge_propagation.specs.Propagation.{IsPairMet, AreRowsMet};
-    ghost use Rattle.closure_seq.specs.Copies.{Slice, IsCopyOf, IsOpenCopy, IsSettledCopy, IsSweptCopy, TakesOver};
+    ghost use Rattle.closure_seq.specs.Copies.{Slice, IsCopyOf, IsOpenCopy, IsSettledCopy, IsSweptCopy};
+    ghost use Rattle.closure_seq.specs.Copies.{TakesOver, AreEdgesOf};
 
     /// Room for copies of networks of so many nodes.
     pub fn new(alloc: Global, nodes: u32) -> Result<SliceCopy, Memory>
@@ -190,6 +192,14 @@ impl SliceCopy {
         ensures { IsTrue result → (self.now.slice.from ≡ from) × (self.now.slice.to ≡ to) }
     {
         self.from == from && self.to == to
+    }
+
+    /// The slice: the number of its first edge, and the one after that of the last.
+    pub fn slice(&self) -> (u32, u32)
+        ensures from { result.0 ≡ self.now.slice.from }
+        ensures to { result.1 ≡ self.now.slice.to }
+    {
+        (self.from, self.to)
     }
 
     /// The rows in which the edges of the slice lie: the first one, and the one after the last.
@@ -263,6 +273,71 @@ impl SliceCopy {
         ensures rows { self.new.rows ≡ self.old.rows }
     {
         sweep_planes(&mut self.pairs, &mut self.tables, c, i, sweep)
+    }
+
+    /// Takes the empty slice of no rows, at row `i`, and takes every edge off the queue, so that the rows on either
+    /// side can be swept.
+    pub fn begin_rows(&mut self, i: u32)
+        requires below { i ≤ self.old.slice.nodes }
+        ensures settled { (m : Algebra) → IsOpenCopy m self.old → IsSettledCopy m self.new }
+        ensures slice { self.new.slice ≡ record { nodes = self.old.slice.nodes; from = 0; to = 0 } }
+        ensures rows { self.new.rows ≡ record { first = i; end = i } }
+    {
+        self.rows = Span { first: i, end: i };
+        self.from = 0;
+        self.to = 0;
+        self.pairs.clear();
+    }
+
+    /// Sweeps the row after the rows along all third nodes, and takes it to the rows. Returns whether no set became
+    /// empty. Each edge whose set becomes smaller is queued.
+    pub fn sweep_after<C: Compose>(&mut self, c: &C) -> bool
+        requires settled { IsSettledCopy (C.algebra c.now) self.old }
+        requires below { self.old.rows.end < self.old.slice.nodes }
+        ensures is_open { IsOpenCopy (C.algebra c.now) self.new }
+        ensures settled { IsTrue result → IsSettledCopy (C.algebra c.now) self.new }
+        ensures slice { self.new.slice ≡ self.old.slice }
+        ensures rows { self.new.rows ≡
+            record { first = self.old.rows.first; end = self.old.rows.end + 1 } }
+    {
+        let _nodes = self.pairs.nodes();
+        let i = self.rows.end;
+        self.rows.end = i + 1;
+        sweep_planes(&mut self.pairs, &mut self.tables, c, i, Sweep::Whole)
+    }
+
+    /// Sweeps the row before the rows along all third nodes, and takes it to the rows. Returns whether no set became
+    /// empty. Each edge whose set becomes smaller is queued.
+    pub fn sweep_before<C: Compose>(&mut self, c: &C) -> bool
+        requires settled { IsSettledCopy (C.algebra c.now) self.old }
+        requires some { 0 < self.old.rows.first }
+        ensures is_open { IsOpenCopy (C.algebra c.now) self.new }
+        ensures settled { IsTrue result → IsSettledCopy (C.algebra c.now) self.new }
+        ensures slice { self.new.slice ≡ self.old.slice }
+        ensures rows { self.new.rows ≡
+            record { first = self.old.rows.first - 1; end = self.old.rows.end } }
+    {
+        let i = self.rows.first - 1;
+        self.rows.first = i;
+        sweep_planes(&mut self.pairs, &mut self.tables, c, i, Sweep::Whole)
+    }
+
+    /// Takes the slice of all edges of the rows. Returns the number of the first one, and the one after that of the
+    /// last. Where they have none both are 0.
+    pub fn take_rows(&mut self) -> (u32, u32)
+        ensures edges { AreEdgesOf self.old.slice.nodes result.0 result.1 self.old.rows }
+        ensures order { result.0 ≤ result.1 }
+        ensures below { result.1 ≤ edge_count self.old.slice.nodes }
+        ensures is_open { (m : Algebra) → IsOpenCopy m self.old → IsOpenCopy m self.new }
+        ensures settled { (m : Algebra) → IsSettledCopy m self.old → IsSettledCopy m self.new }
+        ensures slice { self.new.slice ≡
+            record { nodes = self.old.slice.nodes; from = result.0; to = result.1 } }
+        ensures rows { self.new.rows ≡ self.old.rows }
+    {
+        let (from, to) = edges_of(self.pairs.nodes(), self.rows);
+        self.from = from;
+        self.to = to;
+        (from, to)
     }
 
     /// Intersects each set with the word of its edge, and queues the edges whose set becomes smaller.

@@ -1,9 +1,9 @@
 -- What a round does to the words.
-use Rattle.std.proofs.Common.{◌≡◌, ℕ, ◌<◌, List, [], ◌∷◌, ◌++◌, length, sym, ◌∙◌, ap, subst, arith, inl, inr}
-use Rattle.std.specs.Prelude.{slice_index, sum, get_or}
-use Rattle.std.specs.List.{All, AllZip}
+use Rattle.std.proofs.Common.{◌≡◌, ℕ, ◌<◌, List, [], length, sym, ◌∙◌, ap, subst, arith, inl, inr}
+use Rattle.std.specs.Prelude.{slice_index, sum}
+use Rattle.std.specs.List.{All}
 use Rattle.std.proofs.lemmas.Bool.{cases_lt}
-use Rattle.std.proofs.lemmas.List.Elements.{All-nil, All-cons, All-weaker, AllZip-get_or, length_all_zip, Contains-append_left, Contains-push}
+use Rattle.std.proofs.lemmas.List.Elements.{All-weaker, All-contains}
 use Rattle.calculus_table.specs.Algebra.{Algebra}
 use Rattle.calculus_table.specs.Calculus.{IsCalculus}
 use Rattle.calculus_table.specs.Rel.{IsWithin}
@@ -23,33 +23,21 @@ use Rattle.closure_workers.specs.declared.pieces.Piece.{Piece}
 use Rattle.edge_slices.specs.Slices.{HasClash}
 use Rattle.closure_workers.specs.Pieces.{HasRun, AreDealt, IsBetween, HasSeen}
 
--- ---- dealing
-
-pub AreDealt-push : (pieces : List Piece) (piece : Piece) (from to : ℕ) → AreDealt pieces from → piece.from ≡ from → piece.to ≡ to → AreDealt (pieces ++ piece ∷ []) to
-AreDealt-push pieces piece from to h f t e b = elim (cases_lt e from) [
-  | inl l ↦
-      (let d = h e l in
-      record { piece = d.piece; among = Contains-append_left pieces (piece ∷ []) d.piece d.among; from = d.from; to = d.to })
-  | inr g ↦ record { piece = piece; among = Contains-push pieces piece; from = omega (arith, f); to = omega (arith, t) }
-]
-
 -- ---- what a round leaves
 
 -- where all pieces have seen just these words, they are closed
-pub IsClosed-seen : (m : Algebra) (n : ℕ) (table : OpenState) (pieces ran : List Piece) (words : List ℕ) → IsCalculus m → IsNetwork m n words → table.opening.nodes ≡ n →
-    AreDealt pieces (edge_count n) → AllZip (HasRun m table) pieces ran → ¬ HasClash n words → All (HasSeen words) ran → IsClosed m n words
-IsClosed-seen m n table pieces ran words c net nodes dealt run none all = IsClosed-range m n words c net (record {
+pub IsClosed-seen : (m : Algebra) (n : ℕ) (table : OpenState) (pieces : List Piece) (words : List ℕ) → IsCalculus m → IsNetwork m n words → table.opening.nodes ≡ n →
+    AreDealt pieces (edge_count n) → All (HasRun m table) pieces → ¬ HasClash n words → All (HasSeen words) pieces → IsClosed m n words
+IsClosed-seen m n table pieces words c net nodes dealt run none all = IsClosed-range m n words c net (record {
   each = λ i k o b f t j triple.
       let d = dealt (edge_at n i k) (edge_at-lt n i k o b) in
-      let place = d.among.0 in
-      let q = get_or ran place d.piece in
-      let h : HasRun m table d.piece q = subst (λ p. HasRun m table p q) d.among.2 (AllZip-get_or (HasRun m table) pieces ran place d.piece d.piece run d.among.1) in
-      let below : place < length ran = (let l = length_all_zip (HasRun m table) pieces ran run in let e = d.among.1 in omega arith) in
-      let edges : q.from < q.to = (let s = h.from in let e = h.to in let f = d.from in let t = d.to in omega arith) in
-      let same : q.snap ≡ words = all place d.piece below edges in
+      let p = d.piece in
+      let h : HasRun m table p = All-contains (HasRun m table) pieces p run d.among in
+      let edges : p.from < p.to = (let f = d.from in let t = d.to in omega arith) in
+      let same : p.snap ≡ words = All-contains (HasSeen words) pieces p all d.among edges in
       elim h.closed [
-        | inl r ↦ (subst (λ (ws : List ℕ). IsRangeClosed m n ws d.piece.from d.piece.to) same (subst (λ x. IsRangeClosed m x q.snap d.piece.from d.piece.to) nodes r)).each i k o b d.from d.to j triple
-        | inr clash ↦ absurd (none (subst (λ (ws : List ℕ). HasClash n ws) same (subst (λ x. HasClash x q.snap) nodes clash)))
+        | inl r ↦ (subst (λ (ws : List ℕ). IsRangeClosed m n ws p.from p.to) same (subst (λ x. IsRangeClosed m x p.snap p.from p.to) nodes r)).each i k o b d.from d.to j triple
+        | inr clash ↦ absurd (none (subst (λ (ws : List ℕ). HasClash n ws) same (subst (λ x. HasClash x p.snap) nodes clash)))
       ];
 })
 
@@ -92,19 +80,3 @@ KeepsClosed-empty m n old words empty c net k clash l z = record {
       let below : clash.edge < edge_count n = (let b = clash.below in let s = net.length_is in omega arith) in
       record { each = λ e. subst (λ y. IsWithin y (slice_index empty e)) (sym (closed-empty m n clash.edge other c o closed below at e)) (IsWithin-empty _) };
 }
-
--- ---- one by one
-
--- what holds of two lists, and of one more element of each, holds of the longer lists
-pub AllZip-push : {X : Type 0} (R : X → X → Type 0) (xs ys : List X) (x y : X) → AllZip R xs ys → R x y → AllZip R (xs ++ x ∷ []) (ys ++ y ∷ [])
-AllZip-push R [] [] x y z r = (r, tt)
-AllZip-push R [] (b ∷ ys) x y z r = absurd z
-AllZip-push R (a ∷ xs) [] x y z r = absurd z
-AllZip-push R (a ∷ xs) (b ∷ ys) x y z r = (z.0, AllZip-push R xs ys x y z.1 r)
-
--- what each pair of elements tells of the second one
-pub All-second : {X : Type 0} (R : X → X → Type 0) (P : X → Type 0) (xs ys : List X) → AllZip R xs ys → ((x y : X) → R x y → P y) → All P ys
-All-second R P [] [] z f = All-nil P
-All-second R P [] (y ∷ ys) z f = absurd z
-All-second R P (x ∷ xs) [] z f = absurd z
-All-second R P (x ∷ xs) (y ∷ ys) z f = All-cons P y ys (f x y z.0) (All-second R P xs ys z.1 f)

@@ -26,13 +26,11 @@ pub record IsPieceOf (table : OpenState) (piece : Piece) : Type 0 where
 abbrev pub AreHeld : Algebra → List (Option CopyState) → Type 0
 AreHeld m helds = All (IsHeld m) helds
 
--- the piece after its work: it has seen its slice closed
-pub record HasRun (m : Algebra) (table : OpenState) (old new : Piece) : Type 0 where
-  pub piece : IsPieceOf table new
-  pub from : new.from ≡ old.from
-  pub to : new.to ≡ old.to
-  pub snap : new.snap ≡ new.pass.actor.seen
-  pub closed : IsSliceClosed m table.opening.nodes new.snap old.from old.to
+-- a piece after its work: it has seen its slice closed
+pub record HasRun (m : Algebra) (table : OpenState) (done : Piece) : Type 0 where
+  pub piece : IsPieceOf table done
+  pub snap : done.snap ≡ done.pass.actor.seen
+  pub closed : IsSliceClosed m table.opening.nodes done.snap done.from done.to
 
 -- the edge lies in the slice of one of the pieces
 pub record IsDealt (pieces : List Piece) (edge : ℕ) : Type 0 where

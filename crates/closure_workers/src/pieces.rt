@@ -1,6 +1,6 @@
-//! The pieces of a round, dealt out and gathered again.
+//! The pieces of a round, one for each worker, and what becomes of them.
 
-ghost use Rattle.std.specs.Prelude.{◌≡◌, ℕ, ◌+◌, ◌<◌, ◌≤◌, ◌^◌, [], IfOk, List, length, vec_len, slice_index_or, OnOk};
+ghost use Rattle.std.specs.Prelude.{◌≡◌, ℕ, ◌+◌, ◌<◌, ◌≤◌, ◌^◌, true, [], IfOk, List, length, vec_len, slice_index_or, OnOk};
 ghost use Rattle.std.specs.List.{All};
 ghost use Rattle.calculus_table.specs.Algebra.{Algebra};
 ghost use Rattle.calculus_table.specs.Composition.{full_of};
@@ -10,18 +10,19 @@ ghost use Rattle.network_words.specs.Network.{Refines};
 ghost use Rattle.narrow_core.specs.Actor.{fresh};
 ghost use Rattle.edge_table.specs.Opening.{IsPassOf, algebra_of};
 ghost use Rattle.edge_slices.specs.Slices.{IsHeld};
-ghost use Rattle.closure_workers.specs.Pieces.{IsPieceOf, HasRun, AreDealt, AreHeld, IsBetween, HasSeen};
+ghost use Rattle.closure_workers.specs.Pieces.{IsPieceOf, HasRun, IsDealt, AreDealt, AreHeld, IsBetween, HasSeen};
 
 use calculus_table::{Compose, Memory};
 use closure_seq::SliceCopy;
-use edge_slices::{Others, close_slice_with, is_dense};
+use edge_slices::{Others, close_free_rows, close_slice_with, is_dense};
 use edge_table::{OpenNet, Pass, Snapshot};
 use network_words::{Net, edge_between};
 use qsr_outside::Gate;
 use std::alloc::Global;
 
 /// What one worker has in a round: a pass, the words that it has seen, its slice of the edges, the copy that it held in
-/// the round before, and how often it reads the words before it ends.
+/// the round before, and how often it reads the words before it ends. Without a copy it has no slice until it has taken
+/// free rows.
 #[derive(Drop)]
 pub(crate) struct Piece {
     pub(crate) pass: Pass,
@@ -48,21 +49,17 @@ pub fn is_shared(nodes: u32, size: u32) -> bool {
     u64::from(nodes).saturating_mul(size.saturating_mul(size)) >= SHARED
 }
 
-/// The least work that is shared out, as `is_work_shared` counts it: that of 125 nodes over 64 base relations.
+/// The least work that is shared out, as `is_work_shared` counts it: that of 250 nodes over 8 base relations, or of 125
+/// over 64.
 const SHARED_WORK: u64 = 125_000_000;
 
-/// The most base relations of a calculus whose networks are closed before threads and their room would pay.
-const QUICK: u32 = 8;
-
-/// Whether it pays to share the edges of a network out: where most of them are stated, so that each worker sweeps its
-/// own rows and takes few edges off its queue, and where there is work enough. That grows with the cube of the number
-/// of nodes, and with the number of base relations.
+/// Whether it pays to share the edges of a network out: where most of them are stated, so that the workers sweep rows
+/// and take few edges off their queues, and where there is work enough. That grows with the cube of the number of
+/// nodes, and with the number of base relations.
 pub(crate) fn is_work_shared<C: Compose>(net: &Net, c: &C) -> bool {
     let nodes = u64::from(net.nodes());
     let triples = nodes.saturating_mul(nodes).saturating_mul(nodes);
-    c.size() > QUICK
-        && triples.saturating_mul(u64::from(c.size())) >= SHARED_WORK
-        && is_dense(net.words(), c.full())
+    triples.saturating_mul(u64::from(c.size())) >= SHARED_WORK && is_dense(net.words(), c.full())
 }
 
 /// What sweeping the rows before `i` takes, in thirty-seconds of a block of 16 nodes: a row has a block for each 16
@@ -101,30 +98,42 @@ pub fn slice_end(nodes: u32, edges: u32, from: u32, left: u32) -> u32
     edges
 }
 
-/// A piece over a slice.
+/// The slice of a copy that is held, whose rows the others then leave to it. Without one there is none.
+fn kept_slice(held: &Option<SliceCopy>, nodes: u32, edges: u32, others: &Others) -> (u32, u32)
+    ensures order { result.0 ≤ result.1 }
+    ensures below { result.1 ≤ edges }
+{
+    let Some(copy) = held else {
+        return (0, 0);
+    };
+    let (first, end) = copy.rows();
+    others.keep_rows(first, end, nodes.saturating_sub(1));
+    let (from, to) = copy.slice();
+    let to = to.min(edges);
+    (from.min(to), to)
+}
+
+/// The piece of the worker of this number among so many, with the slice of the copy that is held.
 fn piece_of(
     alloc: Global,
     table: &OpenNet,
     pass: Pass,
     edges: u32,
-    from: u32,
-    to: u32,
     number: u32,
+    count: u32,
     held: Option<SliceCopy>,
+    others: &Others,
 ) -> Result<Piece, Memory>
     requires pass { IsPassOf table.now pass }
     requires actor { pass.actor ≡ fresh 1 table.now.opening.words }
     requires edges { edges ≡ edge_count table.now.opening.nodes }
-    requires order { from ≤ to }
-    requires below { to ≤ edges }
     requires few { number < 2 ^ 31 }
     requires held { IsHeld (algebra_of table.now.opening) held }
     ensures piece { IfOk result (λ piece. IsPieceOf table.now piece) }
-    ensures from { IfOk result (λ piece. piece.from ≡ from) }
-    ensures to { IfOk result (λ piece. piece.to ≡ to) }
 {
     let snap = Snapshot::plain(alloc, edges)?;
-    let times = if to - from < edges { TIMES } else { 0 };
+    let (from, to) = kept_slice(&held, table.nodes(), edges, others);
+    let times = if count > 1 { TIMES } else { 0 };
     Ok(Piece {
         pass,
         snap,
@@ -147,8 +156,7 @@ fn next_held(helds: &mut Vec<Option<SliceCopy>>) -> Option<SliceCopy>
     }
 }
 
-/// Deals the edges out among so many pieces, each with a part of the pass and a copy, if one is left. Returns what is
-/// left of the pass.
+/// So many pieces, each with a part of the pass and a copy, if one is left. Returns what is left of the pass.
 pub(crate) fn deal(
     alloc: Global,
     table: &OpenNet,
@@ -156,68 +164,125 @@ pub(crate) fn deal(
     edges: u32,
     count: u32,
     helds: &mut Vec<Option<SliceCopy>>,
+    others: &Others,
 ) -> Result<(Pass, Vec<Piece>), Memory>
     requires pass { IsPassOf table.now pass }
     requires actor { pass.actor ≡ fresh (count + 1) table.now.opening.words }
     requires edges { edges ≡ edge_count table.now.opening.nodes }
-    requires some { 0 < count }
     requires few { count < 2 ^ 31 }
     requires held { AreHeld (algebra_of table.now.opening) helds.old.items }
     ensures pass { IfOk result (λ r. IsPassOf table.now r.0) }
     ensures actor { IfOk result (λ r. r.0.actor ≡ fresh 1 table.now.opening.words) }
     ensures pieces { IfOk result (λ r. All (IsPieceOf table.now) r.1.items) }
-    ensures dealt { IfOk result (λ r. AreDealt r.1.items (edge_count table.now.opening.nodes)) }
     ensures count { IfOk result (λ r. length r.1.items ≡ count) }
     ensures held { IfOk result (λ _. AreHeld (algebra_of table.now.opening) helds.new.items) }
 {
     let mut pieces = Vec::new(alloc);
     let mut rest = pass;
-    let mut from = 0;
     for number in 0..count {
-        let to = slice_end(table.nodes(), edges, from, count - number);
         let (kept, given) = table.split(rest, 1);
         rest = kept;
         let held = next_held(helds);
-        let piece = piece_of(alloc, table, given, edges, from, to, number, held)?;
+        let piece = piece_of(alloc, table, given, edges, number, count, held, others)?;
         let Ok(()) = pieces.push(piece) else {
             return Err(Memory);
         };
-        from = to;
     }
     Ok((rest, pieces))
 }
 
-/// Closes the slice of a piece, between the two points of the gate. Its room is made here, so that each worker makes
-/// its own; where there is no memory for it the slice is closed without.
+/// Closes the edges of free rows, which are the slice of the piece then, or the slice of the copy that it holds. The
+/// room is made here, so that each worker makes its own; where there is no memory for it the worker takes no rows, as
+/// where none is free when it begins.
+fn close_piece<C: Compose>(
+    alloc: Global,
+    table: &OpenNet,
+    c: &C,
+    others: &Others,
+    mut piece: Piece,
+) -> Piece
+    requires calculus { C.algebra c.now ≡ algebra_of table.now.opening }
+    requires piece { IsPieceOf table.now piece }
+    ensures { HasRun (C.algebra c.now) table.now result }
+{
+    if piece.held.is_some() {
+        close_slice_with(
+            table,
+            &mut piece.pass,
+            c,
+            &mut piece.snap,
+            &mut piece.held,
+            piece.from,
+            piece.to,
+            piece.times,
+            others,
+        );
+        return piece;
+    }
+    if others.have_free_rows(table.nodes() - 1) {
+        piece.snap.make_room(alloc, table.nodes());
+    }
+    let (from, to) = close_free_rows(
+        table,
+        &mut piece.pass,
+        c,
+        &mut piece.snap,
+        &mut piece.held,
+        piece.times,
+        others,
+    );
+    piece.from = from;
+    piece.to = to;
+    piece
+}
+
+/// Closes the slice of a piece, between the two points of the gate.
 pub(crate) fn run_piece<C: Compose, G: Gate>(
     alloc: Global,
     table: &OpenNet,
     c: &C,
     gate: &G,
     others: &Others,
-    mut piece: Piece,
+    piece: Piece,
 ) -> Piece
     requires calculus { C.algebra c.now ≡ algebra_of table.now.opening }
     requires piece { IsPieceOf table.now piece }
-    ensures { HasRun (C.algebra c.now) table.now piece result }
+    ensures { HasRun (C.algebra c.now) table.now result }
 {
     gate.pass(piece.number);
-    if piece.held.is_none() && piece.from < piece.to {
-        piece.snap.make_room(alloc, table.nodes());
-    }
-    close_slice_with(
-        table,
-        &mut piece.pass,
-        c,
-        &mut piece.snap,
-        &mut piece.held,
-        piece.from,
-        piece.to,
-        piece.times,
-        others,
-    );
+    others.come_back();
+    let piece = close_piece(alloc, table, c, others, piece);
     gate.pass(1000 + piece.number);
     piece
+}
+
+/// The greatest end of the slices that have the edge `from`, or `from` itself where none has it.
+fn next_end(pieces: &[Piece], from: u32) -> u32
+    ensures order { from ≤ result }
+    ensures dealt { (e : ℕ) → from ≤ e → e < result → IsDealt pieces.now e }
+{
+    let mut end = from;
+    for piece in pieces {
+        if piece.from <= from && end < piece.to {
+            end = piece.to;
+        }
+    }
+    end
+}
+
+/// Whether each of so many edges lies in the slice of one of the pieces.
+pub(crate) fn are_dealt(pieces: &[Piece], edges: u32) -> bool
+    ensures { result ≡ true → AreDealt pieces.now edges }
+{
+    let mut from = 0;
+    while from < edges {
+        let end = next_end(pieces, from);
+        if end == from {
+            return false;
+        }
+        from = end;
+    }
+    true
 }
 
 /// Keeps the snapshot of a slice, if that has edges.

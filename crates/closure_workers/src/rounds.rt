@@ -1,26 +1,30 @@
-//! Closure by rounds. In each, the edges are dealt out among the workers, which narrow the words of one table at once.
+//! Closure by rounds. In each, the workers narrow the words of one table at once, each in a thread of its own, for
+//! which the thread that starts them waits. They take the edges row by row, as they get to them: a worker that begins
+//! late, as one does whose processor is asleep or in use, gets fewer or none. In later rounds each keeps its rows.
 //!
 //! Why it is right: no step of a worker loses a closed network, and words only become less. A worker ends where what
 //! it has seen is closed at each edge of its slice; that may be old. But where all workers whose slice has edges have
-//! seen just the words that the table was closed with, these are closed at each edge, and so they are the closure.
-//! Where a word is empty and there are three nodes or more, the closure has every set empty.
+//! seen just the words that the table was closed with, and each edge lies in one of the slices, these are closed at
+//! each edge, and so they are the closure. Where a word is empty and there are three nodes or more, the closure has
+//! every set empty.
 //!
-//! Each worker has a thread of its own, and the thread that starts them waits.
+//! Which rows a worker takes is a hint alone. So it is looked whether the slices have all edges, and where they don't,
+//! as where no worker had room for a copy, the network is closed on one thread.
 //!
 //! Why it ends: if one of them has seen other words, then some word became less in this round, since what each has
 //! seen lies between the words at the round's beginning and those at its end.
 
-ghost use Rattle.std.specs.Prelude.{◌≡◌, ℕ, ◌<◌, ◌≤◌, ◌^◌, ⊤, true, false, IfOk, OnOk, OnErr};
+ghost use Rattle.std.specs.Prelude.{◌≡◌, ℕ, ◌<◌, ◌≤◌, ◌^◌, ⊤, true, false, IfOk, IfSome, OnOk, OnErr};
 ghost use Rattle.std.specs.Prelude.{List, length, sum, slice_index};
 ghost use Rattle.std.specs.Thread.{IsSync};
-ghost use Rattle.std.specs.List.{All, AllZip};
+ghost use Rattle.std.specs.List.{All};
 ghost use Rattle.network_words.specs.Edge.{edge_count};
 ghost use Rattle.network_words.specs.Network.{IsNetwork};
 ghost use Rattle.network_words.specs.Closure.{IsClosed, KeepsClosed, IsClosure};
 ghost use Rattle.edge_table.specs.Opening.{algebra_of, IsPassOf};
 ghost use Rattle.closure_workers.specs.Pieces.{IsPieceOf, HasRun, IsBetween, AreHeld, AreClosedIfSeen};
 
-use crate::pieces::{Piece, deal, gather, is_work_shared, run_piece};
+use crate::pieces::{Piece, are_dealt, deal, gather, is_work_shared, run_piece};
 use calculus_table::{Compose, Memory, Rel, lawful};
 use closure_seq::{SliceCopy, close};
 use compose_fast::first_difference;
@@ -46,7 +50,8 @@ fn run_pieces<R: Threads + Sync, C: Compose + Sync, G: Gate + Sync>(
 ) -> Result<Vec<Piece>, Memory>
     requires calculus { C.algebra c.now ≡ algebra_of table.now.opening }
     requires pieces { All (IsPieceOf table.now) pieces.items }
-    ensures { IfOk result (λ ran. AllZip (HasRun (C.algebra c.now) table.now) pieces.items ran.items) }
+    ensures ran { IfOk result (λ ran. All (HasRun (C.algebra c.now) table.now) ran.items) }
+    ensures count { IfOk result (λ ran. length ran.items ≡ length pieces.items) }
 {
     let Some(last) = pieces.pop() else {
         return Ok(Vec::new(alloc));
@@ -54,14 +59,15 @@ fn run_pieces<R: Threads + Sync, C: Compose + Sync, G: Gate + Sync>(
     let work = move || -> Piece
         requires { IsSync C.row × IsSync G.row × (C.algebra c.now ≡ algebra_of table.now.opening)
             × IsPieceOf table.now last }
-        ensures { HasRun (C.algebra c.entry.now) table.entry.now last result }
+        ensures { HasRun (C.algebra c.entry.now) table.entry.now result }
     { run_piece(alloc, table, c, gate, others, last) };
     let others = move || -> Result<Vec<Piece>, Memory>
         requires { IsSync R.row × IsSync C.row × IsSync G.row
             × (C.algebra c.now ≡ algebra_of table.now.opening)
             × All (IsPieceOf table.now) pieces.items }
         ensures { IfOk result (λ ran.
-            AllZip (HasRun (C.algebra c.entry.now) table.entry.now) pieces.items ran.items) }
+            All (HasRun (C.algebra c.entry.now) table.entry.now) ran.items
+            × (length ran.items ≡ length pieces.items)) }
     { run_pieces(rt, alloc, table, c, gate, others, pieces) };
     let (piece, ran) = thread::join(rt, work, others);
     let mut all = ran?;
@@ -71,8 +77,8 @@ fn run_pieces<R: Threads + Sync, C: Compose + Sync, G: Gate + Sync>(
     Ok(all)
 }
 
-/// Narrows the network by all workers at once, and returns what each has seen in the end. The workers take the copies
-/// that were held, and leave theirs.
+/// Narrows the network by all workers at once, and returns what each has seen in the end, or nothing where some edge
+/// lay in no slice. The workers take the copies that were held, and leave theirs.
 fn narrow_at_once<R: Threads + Sync, C: Compose + Sync, G: Gate + Sync>(
     rt: &R,
     alloc: Global,
@@ -81,7 +87,7 @@ fn narrow_at_once<R: Threads + Sync, C: Compose + Sync, G: Gate + Sync>(
     gate: &G,
     count: u32,
     helds: &mut Vec<Option<SliceCopy>>,
-) -> Result<Vec<Snapshot>, Memory>
+) -> Result<Option<Vec<Snapshot>>, Memory>
     requires network { IsNetwork (C.algebra c.now) net.old.nodes net.old.words }
     requires some { 0 < count }
     requires few { count ≤ 64 }
@@ -89,17 +95,24 @@ fn narrow_at_once<R: Threads + Sync, C: Compose + Sync, G: Gate + Sync>(
     ensures rest { net.new ≡ record net.old { words = net.new.words } }
     ensures held { OnOk result (AreHeld (C.algebra c.now) helds.new.items) }
     ensures kept { OnOk result (KeepsClosed (C.algebra c.now) net.old.nodes net.old.words net.new.words) }
-    ensures between { IfOk result (λ snaps. All (IsBetween net.new.words net.old.words) snaps.items) }
-    ensures closed { IfOk result (λ snaps. AreClosedIfSeen (C.algebra c.now) net.old.nodes net.new.words snaps.items) }
+    ensures between { IfOk result (λ seen. IfSome seen (λ snaps.
+        All (IsBetween net.new.words net.old.words) snaps.items)) }
+    ensures closed { IfOk result (λ seen. IfSome seen (λ snaps.
+        AreClosedIfSeen (C.algebra c.now) net.old.nodes net.new.words snaps.items)) }
 {
     lawful(c);
+    let edges = net.edges();
+    let others = Others::of(0);
     let (table, pass) = open(alloc, net, c, count + 1)?;
-    let (home, pieces) = deal(alloc, &table, pass, net.edges(), count, helds)?;
-    let others = Others::of(count);
+    let (home, pieces) = deal(alloc, &table, pass, edges, count, helds, &others)?;
     let pieces = run_pieces(rt, alloc, &table, c, gate, &others, pieces)?;
+    let is_dealt = are_dealt(&pieces, edges);
     let (pass, snaps) = gather(alloc, &table, home, pieces, helds)?;
     table.close(pass, net);
-    Ok(snaps)
+    if !is_dealt {
+        return Ok(None);
+    }
+    Ok(Some(snaps))
 }
 
 /// Whether every snapshot has just these words.
@@ -149,7 +162,11 @@ fn round<R: Threads + Sync, C: Compose + Sync, G: Gate + Sync>(
     ensures less { IfOk result (λ closed. closed ≡ false → sum net.new.words < sum net.old.words) }
 {
     lawful(c);
-    let snaps = narrow_at_once(rt, alloc, net, c, gate, count, helds)?;
+    let seen = narrow_at_once(rt, alloc, net, c, gate, count, helds)?;
+    let Some(snaps) = seen else {
+        close(alloc, net, c)?;
+        return Ok(true);
+    };
     if is_clash(net.nodes(), net.words()) {
         empty_all(net);
         return Ok(true);
@@ -300,11 +317,10 @@ pub fn close_parallel<R: Threads + Sync, C: Compose + Sync, G: Gate + Sync>(
     Ok(())
 }
 
-/// Closes the network as `close_parallel` does, by workers that begin with the copies that are held, that of the
-/// first slice last. Where a copy is for the worker's slice, only what is less in the network than in the copy is
-/// looked at: for one that began with a closed network, what became less since. Each worker in turn gets an equal
-/// part of the edges that are left, rounded down; one alone works on this thread. If memory runs out the network may
-/// be between what it was and its closure.
+/// Closes the network as `close_parallel` does, by workers that begin with the copies that are held, the last one
+/// first. Of the slice of a copy only what is less in the network than in the copy is looked at: for one that began
+/// with a closed network, what became less since. The other workers take the rows that no copy has. If memory runs out
+/// the network may be between what it was and its closure.
 pub fn close_held<R: Threads + Sync, C: Compose + Sync, G: Gate + Sync>(
     rt: &R,
     alloc: Global,

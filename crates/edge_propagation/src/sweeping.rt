@@ -4,7 +4,8 @@
 //! in place of being queued first and taken off the queue again; and what became smaller meanwhile is queued.
 //!
 //! What restricts most is looked at first (van Beek and Manchak 1996): a first sweep goes along the sets of few base
-//! relations alone, so that the whole one after it finds little to narrow.
+//! relations alone, so that the whole one after it finds little to narrow. Over a calculus of more than eight base
+//! relations it goes along every fourth node alone: looking along one takes longer there, and each narrows more.
 
 ghost use Rattle.std.specs.Prelude.{◌≡◌, ℕ, ◌<◌, OnOk};
 ghost use Rattle.network_words.specs.Edge.{IsProperTriple};
@@ -20,10 +21,13 @@ use compose_fast::Tables;
 /// The most base relations of a set that the first sweep goes along.
 const FEW: u32 = 2;
 
+/// Of so many third nodes the first sweep goes along one, where a set takes several planes.
+const EVERY: u32 = 4;
+
 /// Along which third nodes a sweep narrows the pairs of a node.
 #[derive(Clone, Copy, Debug, PartialEq, Eq)]
 pub enum Sweep {
-    /// Those to which it has few base relations.
+    /// Those to which it has few base relations, and where a set takes several planes every fourth of them at most.
     First,
     /// All.
     Whole,
@@ -32,13 +36,13 @@ pub enum Sweep {
 impl Sweep {
     ghost use Rattle.std.specs.Prelude.{◌≡◌, true};
 
-    /// Whether a sweep goes along a set.
+    /// Whether a sweep of sets in `P` planes goes along a set, that of a pair whose nodes are so far apart.
     #[inline(always)]
-    fn goes_along(self, rel: Rel) -> bool
+    fn goes_along<const P: usize>(self, rel: Rel, distance: u32) -> bool
         ensures { self ≡ Sweep.Whole → result ≡ true }
     {
         match self {
-            Sweep::First => rel.count() <= FEW,
+            Sweep::First => rel.count() <= FEW && (P == 1 || distance % EVERY == 0),
             Sweep::Whole => true,
         }
     }
@@ -64,7 +68,7 @@ fn sweep_along<C: Compose, const P: usize>(
     ensures tables { tables.new.bases ≡ tables.old.bases }
 {
     let nodes = work.nodes();
-    if i == j || !sweep.goes_along(work.set(i, j)) {
+    if i == j || !sweep.goes_along::<P>(work.set(i, j), j.wrapping_sub(i)) {
         return Ok(());
     }
     let greater = Span {

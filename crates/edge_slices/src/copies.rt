@@ -37,7 +37,7 @@ const TURNS: u32 = 1_000_000;
 
 /// What a turn on a copy came to.
 #[derive(Clone, Copy, Debug, PartialEq, Eq)]
-enum Turn {
+pub(crate) enum Turn {
     /// The slice is closed.
     Closed,
     /// Some set is empty.
@@ -81,21 +81,27 @@ fn narrow_noted<C: Compose>(
     }
 }
 
-/// Narrows the words as the copy was narrowed since its notes were forgotten, and forgets them.
-fn follow<C: Compose>(
+/// Narrows the words as the copy was narrowed since its notes were forgotten, forgets them, and tells the others if
+/// there were some.
+pub(crate) fn follow<C: Compose>(
     table: &OpenNet,
     pass: &mut Pass,
     c: &C,
     snap: &mut Snapshot,
     copy: &mut SliceCopy,
+    others: &Others,
 )
     requires looking { IsLooking table.now pass.old snap.old }
     requires calculus { C.algebra c.now ≡ algebra_of table.now.opening }
     ensures looks_on { LooksOn table.now pass.old pass.new snap.new }
     ensures copy { copy.new ≡ copy.old }
 {
+    if copy.notes().is_empty() {
+        return;
+    }
     narrow_noted(table, pass, c, snap, copy.notes());
     copy.forget_notes();
+    others.tell();
 }
 
 /// Reads the word of an edge, that from `i` to `k`, again, and takes it over into the copy if it is less than the pass
@@ -152,7 +158,7 @@ fn read_row<C: Compose>(
 
 /// Reads the words of the edges from the nodes of a range to greater ones again, and takes over into the copy what is
 /// less than the pass had seen. Returns whether some is.
-fn read_rows<C: Compose>(
+pub(crate) fn read_rows<C: Compose>(
     table: &OpenNet,
     pass: &mut Pass,
     c: &C,
@@ -222,6 +228,7 @@ fn sweep_rows<C: Compose>(
     c: &C,
     snap: &mut Snapshot,
     copy: &mut SliceCopy,
+    others: &Others,
     sweep: Sweep,
 ) -> bool
     requires looking { IsLooking table.now pass.old snap.old }
@@ -236,7 +243,7 @@ fn sweep_rows<C: Compose>(
     let (first, end) = copy.rows();
     for i in first..end {
         let going_on = copy.sweep_row(c, i, sweep);
-        follow(table, pass, c, snap, copy);
+        follow(table, pass, c, snap, copy, others);
         if !going_on {
             return false;
         }
@@ -252,6 +259,7 @@ fn sweep_slice<C: Compose>(
     c: &C,
     snap: &mut Snapshot,
     copy: &mut SliceCopy,
+    others: &Others,
     times: u32,
 ) -> bool
     requires looking { IsLooking table.now pass.old snap.old }
@@ -263,15 +271,15 @@ fn sweep_slice<C: Compose>(
     ensures settled { result ≡ true → IsSettledCopy (C.algebra c.now) copy.new }
     ensures slice { copy.new.slice ≡ copy.old.slice }
 {
-    if !sweep_rows(table, pass, c, snap, copy, Sweep::First) {
+    if !sweep_rows(table, pass, c, snap, copy, others, Sweep::First) {
         return false;
     }
     read_if(table, pass, c, snap, copy, times > 0);
-    sweep_rows(table, pass, c, snap, copy, Sweep::Whole)
+    sweep_rows(table, pass, c, snap, copy, others, Sweep::Whole)
 }
 
 /// What a set of the copy that became empty comes to.
-fn after_empty(nodes: u32, words: &[u64]) -> Turn
+pub(crate) fn after_empty(nodes: u32, words: &[u64]) -> Turn
     ensures clash { result ≡ Turn.Clash → HasClash nodes words.now }
     ensures not_closed { result ≢ Turn.Closed }
     ensures unknown { result ≢ Turn.Clash → result ≡ Turn.Unknown }
@@ -284,7 +292,7 @@ fn after_empty(nodes: u32, words: &[u64]) -> Turn
 }
 
 /// Reads the words again until some is less than the pass had seen, which the copy takes over, or no other worker has
-/// had anything to look at for two readings, or so many times. Returns whether some is.
+/// anything to look at, or so many times. Returns whether some is.
 fn read_on<C: Compose>(
     table: &OpenNet,
     pass: &mut Pass,
@@ -299,17 +307,12 @@ fn read_on<C: Compose>(
     ensures looks_on { LooksOn table.now pass.old pass.new snap.new }
     ensures copy { TakesOver (C.algebra c.now) copy.old copy.new }
 {
-    let mut quiet: u32 = 0;
-    for _time in 0..times {
-        quiet = if others.are_done() {
-            quiet.saturating_add(1)
-        } else {
-            0
-        };
+    for time in 0..times {
+        let news = others.news();
         if read_words(table, pass, c, snap, copy) {
             return true;
         }
-        if quiet > 1 {
+        if time + 1 == times || others.are_quiet(news) {
             return false;
         }
     }
@@ -339,7 +342,7 @@ fn take_turn<C: Compose>(
     ensures slice { copy.new.slice ≡ copy.old.slice }
 {
     let settled = copy.close_rows(c);
-    follow(table, pass, c, snap, copy);
+    follow(table, pass, c, snap, copy, others);
     if !settled {
         return after_empty(table.nodes(), snap.words());
     }
@@ -347,18 +350,14 @@ fn take_turn<C: Compose>(
         read_if(table, pass, c, snap, copy, times > 1 && copy.is_due());
         return Turn::More;
     }
-    if read_if(table, pass, c, snap, copy, times > 0) {
-        return Turn::More;
-    }
-    others.leave();
-    let less = read_on(table, pass, c, snap, copy, times.saturating_sub(1), others);
+    let less = read_on(table, pass, c, snap, copy, times, others);
     if !less && copy.matches(c, snap.words()) {
         return Turn::Closed;
     }
-    others.come_back();
     if less {
         return Turn::More;
     }
+    others.come_back();
     copy.catch_up(c, snap.words());
     if copy.is_idle() {
         return Turn::Unknown;
@@ -367,7 +366,7 @@ fn take_turn<C: Compose>(
 }
 
 /// Takes turns until one tells that the slice is closed or that nothing is known, or there were too many.
-fn take_turns<C: Compose>(
+pub(crate) fn take_turns<C: Compose>(
     table: &OpenNet,
     pass: &mut Pass,
     c: &C,
@@ -479,7 +478,7 @@ fn close_copy<C: Compose>(
         copy.old.slice result }
     ensures settled { result ≡ Turn.Closed → IsSettledCopy (C.algebra c.now) copy.new }
 {
-    if !is_settled && !sweep_slice(table, pass, c, snap, copy, times) {
+    if !is_settled && !sweep_slice(table, pass, c, snap, copy, others, times) {
         return after_empty(table.nodes(), snap.words());
     }
     take_turns(table, pass, c, snap, copy, times, others)

@@ -7,9 +7,11 @@
 #![tactic(auto)]
 
 mod copies;
+mod free_rows;
 mod others;
 mod slices;
+mod taking;
 
 pub use copies::is_dense;
 pub use others::Others;
-pub use slices::{close_slice, close_slice_with, is_clash};
+pub use slices::{close_free_rows, close_slice, close_slice_with, is_clash};

@@ -17,6 +17,7 @@ ghost use Rattle.edge_slices.specs.Slices.{HasClash, IsSliceClosed, IsLooking, L
 
 use crate::copies::close_on_copy;
 use crate::others::Others;
+use crate::taking::close_free_on_copy;
 use calculus_table::{Compose, lawful};
 use closure_seq::SliceCopy;
 use compose_fast::first_zero;
@@ -244,4 +245,43 @@ pub fn close_slice_with<C: Compose>(
     while narrow_again(table, pass, c, snap, from, to) {
         table.refresh_again(pass, snap);
     }
+}
+
+/// Closes the edges of rows that no other worker has, as `close_slice` does, on the snapshot's own copy. Returns its
+/// slice: the edges from the number `result.0` up to but without `result.1`. It has none where there is no room for a
+/// copy, or no row is free. If the copy tells in the end that the slice is closed, it is held for the next time.
+pub fn close_free_rows<C: Compose>(
+    table: &OpenNet,
+    pass: &mut Pass,
+    c: &C,
+    snap: &mut Snapshot,
+    held: &mut Option<SliceCopy>,
+    times: u32,
+    others: &Others,
+) -> (u32, u32)
+    requires pass { IsPassOf table.now pass.old }
+    requires calculus { C.algebra c.now ≡ algebra_of table.now.opening }
+    requires snap { length snap.old ≡ edge_count table.now.opening.nodes }
+    requires held { IsHeld (C.algebra c.now) held.old }
+    ensures pass { IsPassOf table.now pass.new }
+    ensures reads { ReadsAll pass.old pass.new }
+    ensures snap { snap.new ≡ pass.new.actor.seen }
+    ensures held { IsHeld (C.algebra c.now) held.new }
+    ensures order { result.0 ≤ result.1 }
+    ensures below { result.1 ≤ edge_count table.now.opening.nodes }
+    ensures closed { IsSliceClosed (C.algebra c.now) table.now.opening.nodes snap.new result.0 result.1 }
+{
+    table.refresh(pass, snap);
+    let (is_closed, from, to) = close_free_on_copy(table, pass, c, snap, held, times, others);
+    if is_closed {
+        return (from, to);
+    }
+    others.leave();
+    if from == to {
+        return (0, 0);
+    }
+    while narrow_again(table, pass, c, snap, from, to) {
+        table.refresh_again(pass, snap);
+    }
+    (from, to)
 }

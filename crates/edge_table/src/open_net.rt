@@ -80,7 +80,8 @@ pub fn open<C: Compose>(
 }
 
 impl OpenNet {
-    ghost use Rattle.std.specs.Prelude.{◌≡◌, ◌≢◌, ℕ, ◌<◌, ◌≤◌, ◌↔◌, IsTrue, IfOk, IfSome, None, length, sum, bit_and, slice_index};
+    ghost use Rattle.std.specs.Prelude.{◌≡◌, ◌≢◌, ℕ, ◌<◌, ◌≤◌, ◌↔◌, IsTrue, IfOk, IfSome, None};
+    ghost use Rattle.std.specs.Prelude.{length, sum, bit_and, slice_index};
     ghost use Rattle.calculus_table.specs.Rel.{IsWithin};
     ghost use Rattle.calculus_table.specs.Composition.{full_of, composition};
     ghost use Rattle.network_words.specs.Edge.{edge_count, edge_between, IsProperPair, IsProperTriple};

@@ -12,7 +12,8 @@ ghost use Rattle.session_versions.specs.Stores.{committing};
 ghost use Rattle.session_versions.specs.Versions.{VersionState};
 ghost use Rattle.session_scripts.specs.Batches.{IsBatchFor, IsAsked};
 ghost use Rattle.session_replies.specs.Drafting.{CanCommit};
-ghost use Rattle.session_replies.specs.Replies.{draft_of, withdrawal_fault, withdrawal_faults, next_after, version_line};
+ghost use Rattle.session_replies.specs.Replies.{draft_of, withdrawal_fault, withdrawal_faults, next_after};
+ghost use Rattle.session_replies.specs.Replies.{version_line};
 ghost use Rattle.session_replies.specs.Replies.{withdrawal_reply, ask_reply, reply_to, reply_line, replies};
 
 use calculus_table::{Calculus, Compose, Memory, Rel};
