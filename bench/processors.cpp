@@ -1,8 +1,11 @@
-// How much slower a thread runs where others run beside it: a loop that fills the processor's units, alone and in N threads at once.
+// What can be had of the processors: how long a loop that fills a processor's units takes where N threads share it, as a part of what it takes alone.
 //
 // Usage: processors [N]      (default: 4). Prints the median time of a thread among N, as a multiple of that of a thread alone: 1.00 where each has
-// a processor to itself, and up to 2 where two share the units of one.
+// a processor to itself, and up to 2 where two share the units of one. Then the medians of the same loop shared out among N threads, as a part of the
+// time that one takes: in equal parts, and in 256 pieces, of which each thread takes the next one as it gets free. With N processors to themselves,
+// which are awake, both are 1 / N.
 #include <algorithm>
+#include <atomic>
 #include <chrono>
 #include <cstdint>
 #include <cstdio>
@@ -25,21 +28,34 @@ static double loop(long turns) {
     return microseconds() - begun;
 }
 
+// The time of so many threads that each run the work.
+template <class Work> static double together(int threads, Work work) {
+    double begun = microseconds();
+    std::vector<std::thread> running;
+    for (int thread = 0; thread < threads; thread++) running.emplace_back([&work, thread] { work(thread); });
+    for (auto& thread : running) thread.join();
+    return microseconds() - begun;
+}
+
+static double median(std::vector<double> values) {
+    std::nth_element(values.begin(), values.begin() + values.size() / 2, values.end());
+    return values[values.size() / 2];
+}
+
 int main(int count, char** words) {
     const int threads = count > 1 ? std::atoi(words[1]) : 4;
-    const long turns = 2'000'000;
-    std::vector<double> alone, among;
+    const long turns = 2'000'000, pieces = 256;
+    std::vector<double> alone, among, equal, free;
     for (int round = 0; round < 41; round++) {
-        alone.push_back(loop(turns));
+        double one = loop(turns);
+        alone.push_back(one);
         std::vector<double> times(threads);
-        std::vector<std::thread> running;
-        for (int thread = 0; thread < threads; thread++) running.emplace_back([&times, thread] { times[thread] = loop(turns); });
-        for (auto& thread : running) thread.join();
+        together(threads, [&times](int thread) { times[thread] = loop(turns); });
         among.insert(among.end(), times.begin(), times.end());
+        equal.push_back(together(threads, [threads](int) { loop(turns / threads); }) / one);
+        std::atomic<long> next{0};
+        free.push_back(together(threads, [&next](int) { while (next++ < pieces) loop(turns / pieces); }) / one);
     }
-    auto median = [](std::vector<double> values) {
-        std::nth_element(values.begin(), values.begin() + values.size() / 2, values.end());
-        return values[values.size() / 2];
-    };
-    std::printf("%.2f\n", median(among) / median(alone));
+    std::printf("%.2f of one alone; shared out among %d a loop takes %.2f of what it takes alone in equal parts, %.2f in pieces as they get free\n",
+                median(among) / median(alone), threads, median(equal), median(free));
 }

@@ -7,7 +7,8 @@ The library has no program of its own, so this writes a small one into a folder 
 proved and built there, which takes as long as proving those crates does where no check was kept. The program reads a network of regions or of intervals
 and closes it by `closure_seq`, by one worker and by four, 41 times. All have to end with the same sets. Prints one line for each network: the median
 microseconds of each, the ratio of one worker to one thread, and the quartiles of that of four workers to one. Before that it prints how much slower a
-thread of a loop without memory runs where four run at once (`processors.cpp`, built with g++ -O2), which says what can be had of four processors here.
+thread of a loop without memory runs where four run at once, and what part of its time the loop takes shared out among four (`processors.cpp`, built with
+g++ -O2): so much can be had of four processors here.
 """
 import os, random, statistics, subprocess, sys, tempfile
 
@@ -163,7 +164,7 @@ def main():
         loops = os.path.join(folder, "processors")
         subprocess.run(["g++", "-O2", "-std=c++17", "-pthread", "-o", loops, os.path.join(TOP, "bench/processors.cpp")], check=True)
         program = build_program(os.path.join(folder, "program"), "worker_times", DEPENDS, {"src/main.rt": PROGRAM})
-        print(f"a thread among four takes {subprocess.run([loops], capture_output=True, text=True, check=True).stdout.strip()} of one alone")
+        print(f"a thread among four takes {subprocess.run([loops], capture_output=True, text=True, check=True).stdout.strip()}", flush=True)
         for nodes in sizes:
             kinds = (
                 ("chain", chain(nodes)),
