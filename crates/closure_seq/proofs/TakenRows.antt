@@ -87,7 +87,7 @@ edge_at-le n i j k l o b p q ne = elim (cases_lt (edge_at n k l) (edge_at n i j)
 
 -- from the first edge of the first row to the last edge of the last row that has one, k
 module _ (n k : ℕ) (rows : Span) (some : rows.first ≤ k) (below : k + 1 < n) (inside : k < rows.end) (most : (i : ℕ) → i < rows.end → i + 1 < n → i ≤ k) where
-  pub edges-order : edge_at n rows.first (rows.first + 1) ≤ edge_at n k (n - 1)
+  edges-order : edge_at n rows.first (rows.first + 1) ≤ edge_at n k (n - 1)
   edges-order = edge_at-le n rows.first (rows.first + 1) k (n - 1) (omega arith) (omega (arith, some, below)) (omega (arith, below)) (omega (arith, below))
       (λ e. elim e [ inl l ↦ omega (arith, l, some) | inr s ↦ omega (arith, s.0, s.1, below) ])
 
