@@ -26,7 +26,7 @@ pub(crate) struct FreeRows {
 
 /// How many of so many rows make a block.
 pub(crate) fn block_size(rows: u32) -> u32 {
-    rows / 64 + if rows % 64 == 0 { 0 } else { 1 }
+    rows.div_ceil(64)
 }
 
 /// Whether a block is free.

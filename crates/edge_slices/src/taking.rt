@@ -1,9 +1,9 @@
 //! Rows that are free, taken one block after another, and closed on a copy.
 //!
-//! First rows are swept along the sets of few base relations, each by the worker who comes to it. Then each worker takes
-//! a block of rows that is free, sweeps its rows whole, and goes on with the blocks on either side, until others have
-//! these. So who begins late, or is slower, gets less, and all end together. The edges of the rows that it has are its
-//! slice, which it closes like any other.
+//! First rows are swept along the sets of few base relations, each by the worker who comes to it. Then each worker
+//! takes a block of rows that is free, sweeps its rows whole, and goes on with the blocks on either side, until others
+//! have these. So who begins late, or is slower, gets less, and all end together. The edges of the rows that it has are
+//! its slice, which it closes like any other.
 
 ghost use Rattle.std.specs.Prelude.{◌≡◌, ◌<◌, ◌≤◌, true, length};
 ghost use Rattle.network_words.specs.Edge.{edge_count};
