@@ -6,11 +6,23 @@ use Rattle.network_words.specs.Edge.{edge_count}
 use Rattle.network_words.specs.Network.{Refines}
 use Rattle.network_words.specs.Closure.{IsClosed}
 use Rattle.edge_table.specs.Opening.{OpenState, IsPassOf, algebra_of}
+use Rattle.closure_workers.specs.declared.pieces.Task.{Task}
 use Rattle.closure_workers.specs.declared.pieces.Piece.{Piece}
 use Rattle.closure_seq.specs.Copies.{CopyState}
 use Rattle.edge_slices.specs.Slices.{HasClash, IsSliceClosed, IsHeld}
 
--- a piece of a table: its pass has one part of the weight, has stated nothing and has seen no more than the opening
+-- a task of a table: its pass has one part of the weight, has stated nothing and has seen no more than the opening
+pub record IsTaskOf (table : OpenState) (task : Task) : Type 0 where
+  pub pass : IsPassOf table task.pass
+  pub weight : task.pass.actor.weight ≡ 1
+  pub facts : task.pass.actor.mine ≡ []
+  pub opening : Refines task.pass.actor.seen table.opening.words
+  pub order : task.from ≤ task.to
+  pub below : task.to ≤ edge_count table.opening.nodes
+  pub few : task.number < 2 ^ 31
+  pub held : IsHeld (algebra_of table.opening) task.held
+
+-- and the piece of a worker, with room for the words of all edges
 pub record IsPieceOf (table : OpenState) (piece : Piece) : Type 0 where
   pub pass : IsPassOf table piece.pass
   pub weight : piece.pass.actor.weight ≡ 1
@@ -19,7 +31,6 @@ pub record IsPieceOf (table : OpenState) (piece : Piece) : Type 0 where
   pub size : length piece.snap ≡ edge_count table.opening.nodes
   pub order : piece.from ≤ piece.to
   pub below : piece.to ≤ edge_count table.opening.nodes
-  pub few : piece.number < 2 ^ 31
   pub held : IsHeld (algebra_of table.opening) piece.held
 
 -- copies that pieces hold from one round to the next

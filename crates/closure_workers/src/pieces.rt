@@ -10,7 +10,7 @@ ghost use Rattle.network_words.specs.Network.{Refines};
 ghost use Rattle.narrow_core.specs.Actor.{fresh};
 ghost use Rattle.edge_table.specs.Opening.{IsPassOf, algebra_of};
 ghost use Rattle.edge_slices.specs.Slices.{IsHeld};
-ghost use Rattle.closure_workers.specs.Pieces.{IsPieceOf, HasRun, IsDealt, AreDealt, AreHeld, IsBetween, HasSeen};
+ghost use Rattle.closure_workers.specs.Pieces.{IsTaskOf, IsPieceOf, HasRun, IsDealt, AreDealt, AreHeld, IsBetween, HasSeen};
 
 use calculus_table::{Compose, Memory};
 use closure_seq::SliceCopy;
@@ -20,16 +20,25 @@ use network_words::{Net, edge_between};
 use qsr_outside::Gate;
 use std::alloc::Global;
 
-/// What one worker has in a round: a pass, the words that it has seen, its slice of the edges, the copy that it held in
-/// the round before, and how often it reads the words before it ends. Without a copy it has no slice until it has taken
-/// free rows.
+/// What one worker is given for a round: a pass, the copy that it held in the round before, with its slice of the edges,
+/// and how often it reads the words before it ends. Without a copy it has no slice until it has taken free rows.
+#[derive(Drop)]
+pub(crate) struct Task {
+    pub(crate) pass: Pass,
+    pub(crate) from: u32,
+    pub(crate) to: u32,
+    pub(crate) number: u32,
+    pub(crate) held: Option<SliceCopy>,
+    pub(crate) times: u32,
+}
+
+/// What one worker has in a round: what it was given, and the words that it has seen.
 #[derive(Drop)]
 pub(crate) struct Piece {
     pub(crate) pass: Pass,
     pub(crate) snap: Snapshot,
     pub(crate) from: u32,
     pub(crate) to: u32,
-    pub(crate) number: u32,
     pub(crate) held: Option<SliceCopy>,
     pub(crate) times: u32,
 }
@@ -113,9 +122,8 @@ fn kept_slice(held: &Option<SliceCopy>, nodes: u32, edges: u32, others: &Others)
     (from.min(to), to)
 }
 
-/// The piece of the worker of this number among so many, with the slice of the copy that is held.
-fn piece_of(
-    alloc: Global,
+/// What the worker of this number among so many is given, with the slice of the copy that is held.
+fn task_of(
     table: &OpenNet,
     pass: Pass,
     edges: u32,
@@ -123,26 +131,24 @@ fn piece_of(
     count: u32,
     held: Option<SliceCopy>,
     others: &Others,
-) -> Result<Piece, Memory>
+) -> Task
     requires pass { IsPassOf table.now pass }
     requires actor { pass.actor ≡ fresh 1 table.now.opening.words }
     requires edges { edges ≡ edge_count table.now.opening.nodes }
     requires few { number < 2 ^ 31 }
     requires held { IsHeld (algebra_of table.now.opening) held }
-    ensures piece { IfOk result (λ piece. IsPieceOf table.now piece) }
+    ensures task { IsTaskOf table.now result }
 {
-    let snap = Snapshot::plain(alloc, edges)?;
     let (from, to) = kept_slice(&held, table.nodes(), edges, others);
     let times = if count > 1 { TIMES } else { 0 };
-    Ok(Piece {
+    Task {
         pass,
-        snap,
         from,
         to,
         number,
         held,
         times,
-    })
+    }
 }
 
 /// The copy that was left last, if there is one.
@@ -156,7 +162,7 @@ fn next_held(helds: &mut Vec<Option<SliceCopy>>) -> Option<SliceCopy>
     }
 }
 
-/// So many pieces, each with a part of the pass and a copy, if one is left. Returns what is left of the pass.
+/// So many tasks, each with a part of the pass and a copy, if one is left. Returns what is left of the pass.
 pub(crate) fn deal(
     alloc: Global,
     table: &OpenNet,
@@ -165,7 +171,7 @@ pub(crate) fn deal(
     count: u32,
     helds: &mut Vec<Option<SliceCopy>>,
     others: &Others,
-) -> Result<(Pass, Vec<Piece>), Memory>
+) -> Result<(Pass, Vec<Task>), Memory>
     requires pass { IsPassOf table.now pass }
     requires actor { pass.actor ≡ fresh (count + 1) table.now.opening.words }
     requires edges { edges ≡ edge_count table.now.opening.nodes }
@@ -173,22 +179,47 @@ pub(crate) fn deal(
     requires held { AreHeld (algebra_of table.now.opening) helds.old.items }
     ensures pass { IfOk result (λ r. IsPassOf table.now r.0) }
     ensures actor { IfOk result (λ r. r.0.actor ≡ fresh 1 table.now.opening.words) }
-    ensures pieces { IfOk result (λ r. All (IsPieceOf table.now) r.1.items) }
+    ensures tasks { IfOk result (λ r. All (IsTaskOf table.now) r.1.items) }
     ensures count { IfOk result (λ r. length r.1.items ≡ count) }
     ensures held { IfOk result (λ _. AreHeld (algebra_of table.now.opening) helds.new.items) }
 {
-    let mut pieces = Vec::new(alloc);
+    let mut tasks = Vec::new(alloc);
     let mut rest = pass;
     for number in 0..count {
         let (kept, given) = table.split(rest, 1);
         rest = kept;
         let held = next_held(helds);
-        let piece = piece_of(alloc, table, given, edges, number, count, held, others)?;
-        let Ok(()) = pieces.push(piece) else {
+        let task = task_of(table, given, edges, number, count, held, others);
+        let Ok(()) = tasks.push(task) else {
             return Err(Memory);
         };
     }
-    Ok((rest, pieces))
+    Ok((rest, tasks))
+}
+
+/// The piece of a worker, with room for the words that it sees, which it makes itself.
+fn piece_of(alloc: Global, table: &OpenNet, task: Task) -> Result<Piece, Memory>
+    requires { IsTaskOf table.now task }
+    ensures { IfOk result (λ piece. IsPieceOf table.now piece) }
+{
+    let nodes = table.nodes();
+    let snap = Snapshot::plain(alloc, nodes * (nodes - 1) / 2)?;
+    let Task {
+        pass,
+        from,
+        to,
+        number: _,
+        held,
+        times,
+    } = task;
+    Ok(Piece {
+        pass,
+        snap,
+        from,
+        to,
+        held,
+        times,
+    })
 }
 
 /// Closes the edges of free rows, which are the slice of the piece then, or the slice of the copy that it holds. The
@@ -236,24 +267,31 @@ fn close_piece<C: Compose>(
     piece
 }
 
-/// Closes the slice of a piece, between the two points of the gate.
-pub(crate) fn run_piece<C: Compose, G: Gate>(
+/// Does the work of a task, between the two points of the gate.
+pub(crate) fn run_task<C: Compose, G: Gate>(
     alloc: Global,
     table: &OpenNet,
     c: &C,
     gate: &G,
     others: &Others,
-    piece: Piece,
-) -> Piece
+    task: Task,
+) -> Result<Piece, Memory>
     requires calculus { C.algebra c.now ≡ algebra_of table.now.opening }
-    requires piece { IsPieceOf table.now piece }
-    ensures { HasRun (C.algebra c.now) table.now result }
+    requires task { IsTaskOf table.now task }
+    ensures { IfOk result (λ piece. HasRun (C.algebra c.now) table.now piece) }
 {
-    gate.pass(piece.number);
+    let number = task.number;
+    gate.pass(number);
     others.come_back();
-    let piece = close_piece(alloc, table, c, others, piece);
-    gate.pass(1000 + piece.number);
-    piece
+    let done = match piece_of(alloc, table, task) {
+        Ok(piece) => Ok(close_piece(alloc, table, c, others, piece)),
+        Err(Memory) => {
+            others.leave();
+            Err(Memory)
+        }
+    };
+    gate.pass(1000 + number);
+    done
 }
 
 /// The greatest end of the slices that have the edge `from`, or `from` itself where none has it.
@@ -330,7 +368,6 @@ pub(crate) fn gather(
             snap,
             from,
             to,
-            number: _,
             held,
             times: _,
         } = piece;

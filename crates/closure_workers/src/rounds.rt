@@ -22,9 +22,9 @@ ghost use Rattle.network_words.specs.Edge.{edge_count};
 ghost use Rattle.network_words.specs.Network.{IsNetwork};
 ghost use Rattle.network_words.specs.Closure.{IsClosed, KeepsClosed, IsClosure};
 ghost use Rattle.edge_table.specs.Opening.{algebra_of, IsPassOf};
-ghost use Rattle.closure_workers.specs.Pieces.{IsPieceOf, HasRun, IsBetween, AreHeld, AreClosedIfSeen};
+ghost use Rattle.closure_workers.specs.Pieces.{IsTaskOf, HasRun, IsBetween, AreHeld, AreClosedIfSeen};
 
-use crate::pieces::{Piece, are_dealt, deal, gather, is_work_shared, run_piece};
+use crate::pieces::{Piece, Task, are_dealt, deal, gather, is_work_shared, run_task};
 use calculus_table::{Compose, Memory, Rel, lawful};
 use closure_seq::{SliceCopy, close};
 use compose_fast::first_difference;
@@ -36,40 +36,41 @@ use std::alloc::Global;
 use std::thread;
 use std::thread::Threads;
 
-/// Runs all pieces at once, each in a thread of its own, the last one first. This thread only waits, since a thread
-/// that began on the processor of another one would have to wait for that.
-#[cycle(pieces)]
-fn run_pieces<R: Threads + Sync, C: Compose + Sync, G: Gate + Sync>(
+/// Runs all tasks at once, each in a thread of its own, the last one first. This thread only waits, since a thread that
+/// began on the processor of another one would have to wait for that.
+#[cycle(tasks)]
+fn run_tasks<R: Threads + Sync, C: Compose + Sync, G: Gate + Sync>(
     rt: &R,
     alloc: Global,
     table: &OpenNet,
     c: &C,
     gate: &G,
     others: &Others,
-    mut pieces: Vec<Piece>,
+    mut tasks: Vec<Task>,
 ) -> Result<Vec<Piece>, Memory>
     requires calculus { C.algebra c.now ≡ algebra_of table.now.opening }
-    requires pieces { All (IsPieceOf table.now) pieces.items }
+    requires tasks { All (IsTaskOf table.now) tasks.items }
     ensures ran { IfOk result (λ ran. All (HasRun (C.algebra c.now) table.now) ran.items) }
-    ensures count { IfOk result (λ ran. length ran.items ≡ length pieces.items) }
+    ensures count { IfOk result (λ ran. length ran.items ≡ length tasks.items) }
 {
-    let Some(last) = pieces.pop() else {
+    let Some(last) = tasks.pop() else {
         return Ok(Vec::new(alloc));
     };
-    let work = move || -> Piece
+    let work = move || -> Result<Piece, Memory>
         requires { IsSync C.row × IsSync G.row × (C.algebra c.now ≡ algebra_of table.now.opening)
-            × IsPieceOf table.now last }
-        ensures { HasRun (C.algebra c.entry.now) table.entry.now result }
-    { run_piece(alloc, table, c, gate, others, last) };
+            × IsTaskOf table.now last }
+        ensures { IfOk result (λ piece. HasRun (C.algebra c.entry.now) table.entry.now piece) }
+    { run_task(alloc, table, c, gate, others, last) };
     let others = move || -> Result<Vec<Piece>, Memory>
         requires { IsSync R.row × IsSync C.row × IsSync G.row
             × (C.algebra c.now ≡ algebra_of table.now.opening)
-            × All (IsPieceOf table.now) pieces.items }
+            × All (IsTaskOf table.now) tasks.items }
         ensures { IfOk result (λ ran.
             All (HasRun (C.algebra c.entry.now) table.entry.now) ran.items
-            × (length ran.items ≡ length pieces.items)) }
-    { run_pieces(rt, alloc, table, c, gate, others, pieces) };
-    let (piece, ran) = thread::join(rt, work, others);
+            × (length ran.items ≡ length tasks.items)) }
+    { run_tasks(rt, alloc, table, c, gate, others, tasks) };
+    let (last, ran) = thread::join(rt, work, others);
+    let piece = last?;
     let mut all = ran?;
     let Ok(()) = all.push(piece) else {
         return Err(Memory);
@@ -104,8 +105,8 @@ fn narrow_at_once<R: Threads + Sync, C: Compose + Sync, G: Gate + Sync>(
     let edges = net.edges();
     let others = Others::of(0);
     let (table, pass) = open(alloc, net, c, count + 1)?;
-    let (home, pieces) = deal(alloc, &table, pass, edges, count, helds, &others)?;
-    let pieces = run_pieces(rt, alloc, &table, c, gate, &others, pieces)?;
+    let (home, tasks) = deal(alloc, &table, pass, edges, count, helds, &others)?;
+    let pieces = run_tasks(rt, alloc, &table, c, gate, &others, tasks)?;
     let is_dealt = are_dealt(&pieces, edges);
     let (pass, snaps) = gather(alloc, &table, home, pieces, helds)?;
     table.close(pass, net);
