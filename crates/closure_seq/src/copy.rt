@@ -30,6 +30,7 @@ use std::marker::Model;
 /// Intersects each set with that of its edge, for the number of planes that the sets are kept in.
 fn meet_planes<C: Compose>(pairs: &mut PairSets, words: &[u64], c: &C)
     requires planes { IsPlanes pairs.old.planes }
+    requires enough { (C.algebra c.now).size ≤ 8 * pairs.old.planes }
     requires sets { AreConverses (C.algebra c.now) pairs.old }
     requires length_is { length words.now ≡ edge_count pairs.old.nodes }
     ensures met { IsMet (C.algebra c.now) pairs.old pairs.new }
@@ -50,6 +51,7 @@ fn meet_planes<C: Compose>(pairs: &mut PairSets, words: &[u64], c: &C)
 /// Intersects the set of `(i, j)` with another, for the number of planes that the sets are kept in.
 fn meet_pair_planes<C: Compose>(pairs: &mut PairSets, c: &C, i: u32, j: u32, rel: Rel)
     requires planes { IsPlanes pairs.old.planes }
+    requires enough { (C.algebra c.now).size ≤ 8 * pairs.old.planes }
     requires sets { AreConverses (C.algebra c.now) pairs.old }
     requires proper { IsProperPair pairs.old.nodes i j }
     ensures met { IsMet (C.algebra c.now) pairs.old pairs.new }

@@ -8,7 +8,7 @@
 //! that turns out to have an empty set, or for which memory runs out, is taken back as well, after the pairs of the
 //! edges that are still queued were set to their words again. Both cost what the level changed.
 
-ghost use Rattle.std.specs.Prelude.{◌≡◌, ℕ, ◌∷◌, ◌++◌, [], ◌<◌, true, length, slice_index, slice_set, OnOk};
+ghost use Rattle.std.specs.Prelude.{◌≡◌, ℕ, ◌*◌, ◌∷◌, ◌++◌, [], ◌<◌, ◌≤◌, true, length, slice_index, slice_set, OnOk};
 ghost use Rattle.std.specs.Prelude.{OnErr, IfErr};
 ghost use Rattle.calculus_table.specs.Rel.{IsWithin};
 ghost use Rattle.calculus_table.specs.Composition.{full_of};
@@ -38,6 +38,7 @@ pub(crate) enum Halt {
 /// Takes each edge off the queue and sets its pairs to its word.
 fn reset_queued<C: Compose, const P: usize>(pairs: &mut PairSets, c: &C, levels: &Levels)
     requires planes { pairs.old.planes ≡ P }
+    requires enough { (C.algebra c.now).size ≤ 8 * P }
     requires full { levels.now.full ≡ full_of (C.algebra c.now) }
     requires in_step { IsInStepBut (C.algebra c.now) levels.now.nodes levels.now.top pairs.old }
     ensures planes { pairs.new.planes ≡ pairs.old.planes }
@@ -52,6 +53,7 @@ fn reset_queued<C: Compose, const P: usize>(pairs: &mut PairSets, c: &C, levels:
 /// Undoes the changes of the top.
 fn undo_changes<C: Compose, const P: usize>(pairs: &mut PairSets, c: &C, levels: &mut Levels)
     requires planes { pairs.old.planes ≡ P }
+    requires enough { (C.algebra c.now).size ≤ 8 * P }
     requires full { levels.old.full ≡ full_of (C.algebra c.now) }
     requires in_step { IsInStep (C.algebra c.now) levels.old.nodes levels.old.top pairs.old }
     requires quiet { IsQuiet pairs.old }
@@ -79,6 +81,7 @@ pub(crate) fn take_back<C: Compose, const P: usize>(
     levels: &mut Levels,
 )
     requires planes { pairs.old.planes ≡ P }
+    requires enough { (C.algebra c.now).size ≤ 8 * P }
     requires full { levels.old.full ≡ full_of (C.algebra c.now) }
     requires in_step { IsInStepBut (C.algebra c.now) levels.old.nodes levels.old.top pairs.old }
     requires some { 0 < length levels.old.below }

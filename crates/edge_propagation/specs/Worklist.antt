@@ -1,5 +1,6 @@
 -- The work of closing: the sets of all ordered pairs of nodes, and a queue of edges.
-use Rattle.std.specs.Prelude.{◌≡◌, ℕ, ◌+◌, ◌*◌, ◌<◌, ◌≤◌, ◌⊎◌, Bool, true, false, List, length, slice_index, slice_index_or, slice_set, nat_lt, if◌then◌else◌, sum, count_by}
+use Rattle.std.specs.Prelude.{◌≡◌, ℕ, zero, suc, ◌+◌, ◌*◌, ◌/◌, ◌%◌, ◌^◌, ◌<◌, ◌≤◌, ◌⊎◌, Bool, true, false, List, map, length, slice_index, slice_index_or, slice_set, bit_or, nat_lt, if◌then◌else◌, sum, count_by}
+use Rattle.std.specs.List.{range_with_len}
 use Rattle.network_words.specs.declared.TheConstants.{MAX_NODES}
 use Rattle.compose_fast.specs.Nibbles.{byte}
 
@@ -10,6 +11,19 @@ pub record Worklist : Type 0 where
   pub planes : ℕ
   pub sets : List ℕ
   pub queued : List Bool
+
+-- the set whose bytes, of so many, stand 256 places apart, the first one at this place
+unfoldable pub set_of_bytes : List ℕ → ℕ → ℕ → ℕ
+set_of_bytes bytes zero at = 0
+set_of_bytes bytes (suc p) at = bit_or (set_of_bytes bytes p at) (slice_index bytes (256 * p + at) * 2 ^ (8 * p))
+
+-- the sets of all pairs of n nodes, whose bytes lie in rows of so many planes, that of (i, j) at 256 i + j
+unfoldable pub sets_in : List ℕ → ℕ → ℕ → List ℕ
+sets_in bytes planes n = map (λ e. set_of_bytes bytes planes (256 * (planes * (e / 256)) + e % 256)) (range_with_len 0 (256 * n))
+
+-- the work whose sets lie in such rows
+abbrev pub worklist_in : ℕ → ℕ → List ℕ → List Bool → Worklist
+worklist_in n planes bytes queued = record { nodes = n; planes = planes; sets = sets_in bytes planes n; queued = queued }
 
 -- the set of the pair (i, j)
 abbrev pub set_of : Worklist → ℕ → ℕ → ℕ

@@ -17,7 +17,9 @@ use compose_fast::Tables;
 use network_words::{Net, edge_between, relation_between};
 
 /// The set of the identity.
-fn identity_of<C: Compose>(c: &C) -> Rel {
+fn identity_of<C: Compose>(c: &C) -> Rel
+    ensures { IsWithin result (full_of (C.algebra c.now)) }
+{
     lawful(c);
     Rel::single(c.identity())
 }
@@ -26,7 +28,8 @@ fn identity_of<C: Compose>(c: &C) -> Rel {
 #[inline(always)]
 fn converse_of<C: Compose>(c: &C, rel: Rel) -> Rel
     requires { IsWithin rel (full_of (C.algebra c.now)) }
-    ensures { result ≡ converse (C.algebra c.now) rel }
+    ensures value { result ≡ converse (C.algebra c.now) rel }
+    ensures within { IsWithin result (full_of (C.algebra c.now)) }
 {
     lawful(c);
     if rel == c.full() {
@@ -38,6 +41,7 @@ fn converse_of<C: Compose>(c: &C, rel: Rel) -> Rel
 /// Loads the sets of the pair `(i, j)`, both ways.
 fn load_pair<C: Compose, const P: usize>(work: &mut PairSets, words: &[u64], c: &C, i: u32, j: u32)
     requires planes { work.old.planes ≡ P }
+    requires enough { (C.algebra c.now).size ≤ 8 * P }
     requires network { IsNetwork (C.algebra c.now) work.old.nodes words.now }
     requires order { i < j }
     requires below { j < work.old.nodes }
@@ -57,6 +61,7 @@ fn load_pair<C: Compose, const P: usize>(work: &mut PairSets, words: &[u64], c: 
 /// Loads the sets of the pairs of node `i` with greater ones, and the identity as that of `i` with itself.
 fn load_row<C: Compose, const P: usize>(work: &mut PairSets, words: &[u64], c: &C, i: u32)
     requires planes { work.old.planes ≡ P }
+    requires enough { (C.algebra c.now).size ≤ 8 * P }
     requires network { IsNetwork (C.algebra c.now) work.old.nodes words.now }
     requires below { i < work.old.nodes }
     requires before { IsLoaded (C.algebra c.now) work.old.nodes words.now work.old i }
@@ -74,6 +79,7 @@ fn load_row<C: Compose, const P: usize>(work: &mut PairSets, words: &[u64], c: &
 /// Loads the sets of all pairs from the words of a network.
 pub fn load<C: Compose, const P: usize>(work: &mut PairSets, words: &[u64], c: &C)
     requires planes { work.old.planes ≡ P }
+    requires enough { (C.algebra c.now).size ≤ 8 * P }
     requires network { IsNetwork (C.algebra c.now) work.old.nodes words.now }
     ensures planes { work.new.planes ≡ P }
     ensures in_step { IsInStep (C.algebra c.now) work.old.nodes words.now work.new }
@@ -150,6 +156,7 @@ fn load_with_tables<C: Compose, const P: usize>(
     c: &C,
 )
     requires few { P ≤ 8 }
+    requires enough { (C.algebra c.now).size ≤ 8 * P }
     requires network { IsNetwork (C.algebra c.now) work.old.nodes words.now }
     ensures planes { work.new.planes ≡ P }
     ensures in_step { IsInStep (C.algebra c.now) work.old.nodes words.now work.new }
@@ -170,6 +177,7 @@ pub fn load_queued<C: Compose, const P: usize>(
     c: &C,
 )
     requires few { P ≤ 8 }
+    requires enough { (C.algebra c.now).size ≤ 8 * P }
     requires network { IsNetwork (C.algebra c.now) work.old.nodes words.now }
     ensures planes { work.new.planes ≡ P }
     ensures in_step { IsInStep (C.algebra c.now) work.old.nodes words.now work.new }

@@ -1,6 +1,6 @@
 //! Sets that others made smaller, taken over into the pairs.
 
-ghost use Rattle.std.specs.Prelude.{◌≡◌, ◌<◌, length};
+ghost use Rattle.std.specs.Prelude.{◌≡◌, ◌*◌, ◌<◌, ◌≤◌, length};
 ghost use Rattle.network_words.specs.Edge.{edge_count, IsProperPair};
 ghost use Rattle.edge_propagation.specs.Propagation.{AreConverses, IsMet, IsPairMet, IsRowMet, AreRowsMet};
 
@@ -13,6 +13,7 @@ use network_words::edge_between;
 #[inline(always)]
 pub fn meet_pair<C: Compose, const P: usize>(work: &mut PairSets, c: &C, i: u32, j: u32, rel: Rel)
     requires planes { work.old.planes ≡ P }
+    requires enough { (C.algebra c.now).size ≤ 8 * P }
     requires sets { AreConverses (C.algebra c.now) work.old }
     requires proper { IsProperPair work.old.nodes i j }
     ensures met { IsMet (C.algebra c.now) work.old work.new }
@@ -20,7 +21,7 @@ pub fn meet_pair<C: Compose, const P: usize>(work: &mut PairSets, c: &C, i: u32,
 {
     lawful(c);
     let _nodes = work.nodes();
-    let set = work.set(i, j);
+    let set = work.get::<P>(i, j);
     let met = set.meet(rel);
     if met == set {
         return;
@@ -31,6 +32,7 @@ pub fn meet_pair<C: Compose, const P: usize>(work: &mut PairSets, c: &C, i: u32,
 /// Intersects the sets of node `i` to greater ones with those of their edges.
 fn meet_row<C: Compose, const P: usize>(work: &mut PairSets, c: &C, words: &[u64], i: u32)
     requires planes { work.old.planes ≡ P }
+    requires enough { (C.algebra c.now).size ≤ 8 * P }
     requires sets { AreConverses (C.algebra c.now) work.old }
     requires length_is { length words.now ≡ edge_count work.old.nodes }
     requires below { i < work.old.nodes }
@@ -47,6 +49,7 @@ fn meet_row<C: Compose, const P: usize>(work: &mut PairSets, c: &C, words: &[u64
 /// Intersects each set with that of its edge, and queues the edges whose set becomes smaller.
 pub fn meet<C: Compose, const P: usize>(work: &mut PairSets, c: &C, words: &[u64])
     requires planes { work.old.planes ≡ P }
+    requires enough { (C.algebra c.now).size ≤ 8 * P }
     requires sets { AreConverses (C.algebra c.now) work.old }
     requires length_is { length words.now ≡ edge_count work.old.nodes }
     ensures met { IsMet (C.algebra c.now) work.old work.new }

@@ -1,14 +1,14 @@
 //! The sets of all ordered pairs of nodes, and the queue of edges whose triples are to be looked at.
 //!
-//! A set is kept twice: as a word, and as bytes in planes, which `compose_fast::Tables` reads 16 at a time. The planes
-//! of a row lie one after another, so that few nodes take little room: as much is filled as the nodes and the planes
-//! need. The set of a pair with itself is that of the identity, which is within every composition of a set with its
-//! converse.
+//! A set is kept as bytes in planes, which `compose_fast::Tables` reads 16 at a time. The planes of a row lie one after
+//! another, so that few nodes take little room: as much is filled as the nodes and the planes need. The set of a pair
+//! with itself is that of the identity, which is within every composition of a set with its converse.
 //!
 //! An edge is queued where its mark says so. Proposals only tell which of them might come next; where the edge isn't
 //! queued, the first mark is taken.
 
-ghost use Rattle.std.specs.Prelude.{◌≡◌, ℕ, ◌+◌, ◌*◌, ◌<◌, ◌≤◌, slice_index};
+ghost use Rattle.std.specs.Prelude.{◌≡◌, ◌+◌, ◌*◌, ◌<◌, ◌≤◌, length};
+ghost use Rattle.edge_propagation.specs.Worklist.{set_of_bytes};
 
 use crate::order::Proposals;
 use calculus_table::{Memory, Rel};
@@ -29,8 +29,6 @@ pub struct Note {
 pub struct PairSets {
     nodes: u32,
     planes: usize,
-    sets: Vec<Rel>,
-    are_empty: bool,
     bytes: Vec<u8>,
     queued: Vec<bool>,
     waiting: usize,
@@ -41,21 +39,18 @@ pub struct PairSets {
 }
 
 impl Model for PairSets {
-    ghost use Rattle.std.specs.Prelude.{◌≡◌, ℕ, ◌*◌, ◌≤◌, true, count_by, slice_index, vec_capacity};
-    ghost use Rattle.edge_propagation.specs.Worklist.{Worklist, IsSized, AreBytesOf};
+    ghost use Rattle.std.specs.Prelude.{◌≡◌, ◌*◌, ◌≤◌, count_by, vec_capacity};
+    ghost use Rattle.edge_propagation.specs.Worklist.{Worklist, IsSized, AreBytesOf, worklist_in};
 
     ghost Value = { Worklist };
 
-    ghost view = { λ a. record { nodes = a.nodes; planes = a.planes; sets = a.sets.items; queued = a.queued.items } };
+    ghost view = { λ a. worklist_in a.nodes a.planes a.bytes.items a.queued.items };
 
     ghost invariant = { λ a.
-        IsSized (record { nodes = a.nodes; planes = a.planes; sets = a.sets.items; queued = a.queued.items })
-        × AreBytesOf
-        (record { nodes = a.nodes; planes = a.planes; sets = a.sets.items; queued = a.queued.items })
-        a.bytes.items
+        IsSized (worklist_in a.nodes a.planes a.bytes.items a.queued.items)
+        × AreBytesOf (worklist_in a.nodes a.planes a.bytes.items a.queued.items) a.bytes.items
         × (a.waiting ≡ count_by (λ b. b) a.queued.items)
-        × (2048 * a.nodes ≤ vec_capacity a.bytes)
-        × (a.are_empty ≡ true → (e : ℕ) → slice_index a.sets.items e ≡ 0) };
+        × (2048 * a.nodes ≤ vec_capacity a.bytes) };
 }
 
 /// The place of the first byte of the set of `(i, k)` in `P` planes.
@@ -69,17 +64,37 @@ pub fn byte_place<const P: usize>(i: u32, k: u32) -> usize
     256 * (P * i as usize) + k as usize
 }
 
-/// Makes every set empty.
-fn make_empty(sets: &mut [Rel])
-    ensures { (e : ℕ) → slice_index sets.new e ≡ 0 }
+/// The set whose bytes stand in so many planes of a row, the first one at a place.
+#[inline(always)]
+fn join_bytes(bytes: &[u8], planes: usize, at: usize) -> Rel
+    requires few { planes ≤ 8 }
+    requires inside { at + 256 * planes ≤ length bytes.now + 255 }
+    ensures { result ≡ set_of_bytes bytes.now planes at }
 {
-    for set in sets.iter_mut() {
-        *set = Rel::EMPTY;
+    let mut all = Rel::EMPTY;
+    for p in 0..planes {
+        let byte = u64::from(bytes[256 * p + at]);
+        all = all.union(Rel::of(byte << (8 * p)));
+    }
+    all
+}
+
+/// The same where the number of planes isn't known before: one or two are read without a loop.
+#[inline(always)]
+fn read_set(bytes: &[u8], planes: usize, at: usize) -> Rel
+    requires few { planes ≤ 8 }
+    requires inside { at + 256 * planes ≤ length bytes.now + 255 }
+    ensures { result ≡ set_of_bytes bytes.now planes at }
+{
+    match planes {
+        1 => join_bytes(bytes, 1, at),
+        2 => join_bytes(bytes, 2, at),
+        _ => join_bytes(bytes, planes, at),
     }
 }
 
 impl PairSets {
-    ghost use Rattle.std.specs.Prelude.{◌≡◌, ℕ, ◌+◌, ◌*◌, ◌<◌, ◌≤◌, ◌↔◌, true, false, IsTrue, IfOk, IfSome};
+    ghost use Rattle.std.specs.Prelude.{◌≡◌, ℕ, ◌+◌, ◌*◌, ◌^◌, ◌<◌, ◌≤◌, ◌↔◌, true, false, IsTrue, IfOk, IfSome};
     ghost use Rattle.std.specs.Prelude.{IfNone, MatchOption, length, slice_set};
     ghost use Rattle.network_words.specs.Edge.{IsProperPair};
     ghost use Rattle.network_words.specs.declared.TheConstants.{MAX_NODES};
@@ -92,14 +107,11 @@ impl PairSets {
         requires bounded { nodes ≤ MAX_NODES }
         ensures { IfOk result (λ work. work.nodes ≡ nodes) }
     {
-        let sets = filled(alloc, Rel::EMPTY, nodes as usize)?;
         let bytes = with_room(alloc, 8 * nodes as usize)?;
         let queued = filled(alloc, false, nodes as usize)?;
         Ok(PairSets {
             nodes,
             planes: 0,
-            sets,
-            are_empty: true,
             bytes,
             queued,
             waiting: 0,
@@ -168,7 +180,20 @@ impl PairSets {
         requires second { j < self.now.nodes }
         ensures { result ≡ set_of self.now i j }
     {
-        self.sets[(256 * i + j) as usize]
+        let at = 256 * (self.planes * i as usize) + j as usize;
+        read_set(&self.bytes, self.planes, at)
+    }
+
+    /// The set of the pair `(i, j)`, where the number of planes is known.
+    #[inline(always)]
+    pub fn get<const P: usize>(&self, i: u32, j: u32) -> Rel
+        requires planes { self.now.planes ≡ P }
+        requires first { i < self.now.nodes }
+        requires second { j < self.now.nodes }
+        ensures { result ≡ set_of self.now i j }
+    {
+        let _ = &self.nodes;
+        join_bytes(&self.bytes, P, byte_place::<P>(i, j))
     }
 
     /// The planes of the sets.
@@ -185,9 +210,6 @@ impl PairSets {
         ensures { self.new ≡ record self.old { planes = planes; sets = self.new.sets } }
     {
         if self.planes != planes {
-            if !self.are_empty {
-                make_empty(&mut self.sets);
-            }
             clear_to(&mut self.bytes, planes * self.nodes as usize);
             self.planes = planes;
         }
@@ -199,13 +221,11 @@ impl PairSets {
         requires planes { self.old.planes ≡ P }
         requires first { i < self.old.nodes }
         requires second { j < self.old.nodes }
+        requires fits { rel < 2 ^ (8 * P) }
         ensures value { self.new ≡ record self.old { sets = slice_set self.old.sets (256 * i + j) rel } }
         ensures sized { IsSized self.old }
     {
         let _ = &self.nodes;
-        let place = (256 * i + j) as usize;
-        self.sets[place] = rel;
-        self.are_empty = false;
         put_set::<P>(&mut self.bytes, byte_place::<P>(i, j), rel);
     }
 

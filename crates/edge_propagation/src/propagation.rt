@@ -38,6 +38,7 @@ pub struct Emptied;
 /// Sets the set of `(i, k)`, and with it that of `(k, i)`.
 pub fn put_pair<C: Compose, const P: usize>(work: &mut PairSets, c: &C, i: u32, k: u32, rel: Rel)
     requires planes { work.old.planes ≡ P }
+    requires enough { (C.algebra c.now).size ≤ 8 * P }
     requires proper { IsProperPair work.old.nodes i k }
     requires within { IsWithin rel (full_of (C.algebra c.now)) }
     ensures value { work.new ≡ record work.old {
@@ -52,6 +53,7 @@ pub fn put_pair<C: Compose, const P: usize>(work: &mut PairSets, c: &C, i: u32, 
 /// Sets the set of `(i, k)`, and with it that of `(k, i)`, and queues their edge.
 pub fn refine<C: Compose, const P: usize>(work: &mut PairSets, c: &C, i: u32, k: u32, rel: Rel)
     requires planes { work.old.planes ≡ P }
+    requires enough { (C.algebra c.now).size ≤ 8 * P }
     requires proper { IsProperPair work.old.nodes i k }
     requires within { IsWithin rel (full_of (C.algebra c.now)) }
     ensures value { work.new ≡ record work.old {
@@ -86,8 +88,8 @@ fn narrow<C: Compose, const P: usize>(
     ensures empty { OnErr result (HasEmpty work.new) }
 {
     let _nodes = work.nodes();
-    let rel = work.set(i, k);
-    let narrowed = rel.meet(tables.compose::<C, P>(c, a, work.set(j, k)));
+    let rel = work.get::<P>(i, k);
+    let narrowed = rel.meet(tables.compose::<C, P>(c, a, work.get::<P>(j, k)));
     if narrowed == rel {
         return Ok(());
     }
@@ -225,7 +227,7 @@ pub fn propagate_span<C: Compose, const P: usize>(
         return Ok(());
     }
     let _nodes = work.nodes();
-    let a = work.set(i, j);
+    let a = work.get::<P>(i, j);
     tables.take::<C, P>(c, a);
     for block in span.first / 16..(span.end + 15) / 16 {
         propagate_block::<C, P>(work, tables, c, i, j, span, block, a)?;

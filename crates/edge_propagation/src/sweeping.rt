@@ -68,7 +68,7 @@ fn sweep_along<C: Compose, const P: usize>(
     ensures tables { tables.new.bases ≡ tables.old.bases }
 {
     let nodes = work.nodes();
-    if i == j || !sweep.goes_along::<P>(work.set(i, j), j.wrapping_sub(i)) {
+    if i == j || !sweep.goes_along::<P>(work.get::<P>(i, j), j.wrapping_sub(i)) {
         return Ok(());
     }
     let greater = Span {

@@ -2,7 +2,11 @@ use Rattle.std.proofs.Common.{◌<◌, ◌≤◌, refl, ◌∙◌, ap, arith}
 use Rattle.network_words.specs.Network.{relation_between}
 use Rattle.edge_propagation.specs.Worklist.{Worklist}
 use Rattle.edge_propagation.proofs.Loads.{IsLoaded-diagonal, IsRowLoaded-pair, IsLoaded-row}
+use Rattle.edge_propagation.proofs.Planes.{set-fits}
 use Rattle.edge_propagation.proofs.loading.load_row.Goals as goal
+
+pub put-requires-clause-fits : goal.put-requires-clause-fits
+put-requires-clause-fits g c = set-fits (g.C.Compose.algebra c.args.c.now) c.identity_of.result g.row.P c.identity_of.ensures c.requires.enough
 
 pub loop-j-init : goal.loop-j-init
 loop-j-init g c = record {

@@ -4,7 +4,7 @@ use Rattle.edge_propagation.proofs.Blocks.{IsPropagated-block}
 use Rattle.edge_propagation.proofs.propagation.propagate_span.Goals as goal
 
 pub take-requires-clause-within : goal.take-requires-clause-within
-take-requires-clause-within g c = rw c.set-a.ensures (c.requires.ready.sets.within _ _ c.requires.proper)
+take-requires-clause-within g c = rw c.get-a.ensures (c.requires.ready.sets.within _ _ c.requires.proper)
 
 pub loop-block-init : goal.loop-block-init
 loop-block-init g c = record { step = IsStep-refl _ _ c.requires.ready.sets; settled = λ q l t among. absurd (let from = among.from in omega arith) }
@@ -16,7 +16,7 @@ pub propagate_block-requires-clause-proper : goal.propagate_block-requires-claus
 propagate_block-requires-clause-proper g c = pair-step _ _ _ _ _ c.loop-block.invariant.step c.requires.proper
 
 pub propagate_block-requires-clause-set : goal.propagate_block-requires-clause-set
-propagate_block-requires-clause-set g c = λ quiet. c.set-a.ensures ∙ sym (c.loop-block.invariant.step.same _ _ c.requires.proper quiet)
+propagate_block-requires-clause-set g c = λ quiet. c.get-a.ensures ∙ sym (c.loop-block.invariant.step.same _ _ c.requires.proper quiet)
 
 pub returns-in_err-propagate_block-clause-step : goal.returns-in_err-propagate_block-clause-step
 returns-in_err-propagate_block-clause-step g c = IsStep-trans _ _ _ _ c.loop-block.invariant.step c.in_err-propagate_block.ensures.step
@@ -37,4 +37,4 @@ pub propagate_block-requires-clause-span : goal.propagate_block-requires-clause-
 propagate_block-requires-clause-span g c = rw c.loop-block.invariant.step.nodes c.requires.span
 
 pub propagate_block-requires-clause-within : goal.propagate_block-requires-clause-within
-propagate_block-requires-clause-within g c = rw c.set-a.ensures (c.loop-block.invariant.step.within _ _ c.requires.proper)
+propagate_block-requires-clause-within g c = rw c.get-a.ensures (c.loop-block.invariant.step.within _ _ c.requires.proper)

@@ -1,8 +1,7 @@
 use Rattle.std.proofs.Common.{◌∙◌, ◌*◌, sym, refl, length, ap, arith, count_by}
-use Rattle.std.specs.Prelude.{slice_index}
 use Rattle.std.proofs.lemmas.List.{length-replicate}
 use Rattle.edge_propagation.proofs.Places.{count-none}
-use Rattle.edge_propagation.proofs.Planes.{AreBytesOf-none, zero-at}
+use Rattle.edge_propagation.proofs.Planes.{AreBytesOf-none, length-sets_in}
 use Rattle.edge_propagation.proofs.pairs.PairSets.new.Goals as goal
 
 pub invariant_of-result : goal.invariant_of-result
@@ -10,11 +9,10 @@ invariant_of-result c = (
   record {
     some = c.requires.some;
     bounded = c.requires.bounded;
-    sets_length = ap length c.in_ok-sets.ensures ∙ length-replicate _ _;
+    sets_length = length-sets_in c.in_ok-bytes.bytes.items 0 c.args.nodes;
     queued_length = ap length c.in_ok-queued.ensures ∙ length-replicate _ _;
   },
   AreBytesOf-none _ c.in_ok-bytes.bytes.items refl c.in_ok-bytes.ensures.none,
   sym (ap (count_by (λ b. b)) c.in_ok-queued.ensures ∙ count-none (256 * c.args.nodes)),
   omega (arith, c.in_ok-bytes.ensures.room),
-  λ _ e. ap (λ xs. slice_index xs e) c.in_ok-sets.ensures ∙ zero-at (256 * c.args.nodes) e,
 )
