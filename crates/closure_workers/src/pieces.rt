@@ -1,6 +1,7 @@
 //! The pieces of a round, one for each worker, and what becomes of them.
 
-ghost use Rattle.std.specs.Prelude.{◌≡◌, ℕ, ◌+◌, ◌<◌, ◌≤◌, ◌^◌, true, [], IfOk, List, length, vec_len, slice_index_or, OnOk};
+ghost use Rattle.std.specs.Prelude.{◌≡◌, ℕ, ◌+◌, ◌<◌, ◌≤◌, ◌^◌, true, [], IfOk};
+ghost use Rattle.std.specs.Prelude.{List, length, vec_len, slice_index_or, OnOk};
 ghost use Rattle.std.specs.List.{All};
 ghost use Rattle.calculus_table.specs.Algebra.{Algebra};
 ghost use Rattle.calculus_table.specs.Composition.{full_of};
@@ -10,7 +11,8 @@ ghost use Rattle.network_words.specs.Network.{Refines};
 ghost use Rattle.narrow_core.specs.Actor.{fresh};
 ghost use Rattle.edge_table.specs.Opening.{IsPassOf, algebra_of};
 ghost use Rattle.edge_slices.specs.Slices.{IsHeld};
-ghost use Rattle.closure_workers.specs.Pieces.{IsTaskOf, IsPieceOf, HasRun, IsDealt, AreDealt, AreHeld, IsBetween, HasSeen};
+ghost use Rattle.closure_workers.specs.Pieces.{IsTaskOf, IsPieceOf, HasRun, IsDealt, AreDealt, AreHeld};
+ghost use Rattle.closure_workers.specs.Pieces.{IsBetween, HasSeen};
 
 use calculus_table::{Compose, Memory};
 use closure_seq::SliceCopy;
@@ -20,8 +22,8 @@ use network_words::{Net, edge_between};
 use qsr_outside::Gate;
 use std::alloc::Global;
 
-/// What one worker is given for a round: a pass, the copy that it held in the round before, with its slice of the edges,
-/// and how often it reads the words before it ends. Without a copy it has no slice until it has taken free rows.
+/// What one worker is given for a round: a pass, the copy that it held in the round before, with its slice of the
+/// edges, and how often it reads the words before it ends. Without a copy it has no slice until it has taken free rows.
 #[derive(Drop)]
 pub(crate) struct Task {
     pub(crate) pass: Pass,
