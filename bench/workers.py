@@ -1,7 +1,7 @@
 #!/usr/bin/env python3
 """Times the closure of a network by workers, beside the same on one thread in the same run.
 
-Usage: bench/workers.py [NODES ..]      (default: 3 20 64 128 256)
+Usage: bench/workers.py [--count] [NODES ..]      (default: 3 20 64 128 256)
 
 The library has no program of its own, so this writes a small one into a folder for temporary files, with copies of the crates, and has it
 proved and built there, which takes as long as proving those crates does where no check was kept. The program reads a network of regions or of intervals
@@ -9,8 +9,12 @@ and closes it by `closure_seq`, by one worker and by four, 41 times. All have to
 microseconds of each, the ratio of one worker to one thread, and the quartiles of that of four workers to one. Before that it prints how much slower a
 thread of a loop without memory runs where four run at once, and what part of its time the loop takes shared out among four (`processors.cpp`, built with
 g++ -O2): so much can be had of four processors here.
+
+With --count it counts instructions in place of that (valgrind --tool=callgrind), which others' use of the processors doesn't change: the millions of a
+closing on one thread, of each of four workers on average, and of the thread that starts them beside that, and what the last two come to as a part of the
+first. That takes a minute or two a network; only those whose edges are shared out tell something.
 """
-import os, random, statistics, subprocess, sys, tempfile
+import glob, os, random, re, statistics, subprocess, sys, tempfile
 
 from closure import chain, random_network
 from timing import TOP, build_program
@@ -158,8 +162,33 @@ def interval_network(nodes, degree, seed):
     return "\n".join(lines + ["."]) + "\n"
 
 
+def counted(program, text):
+    """The millions of instructions of a closing on one thread, of a worker of four, and of the thread that starts these."""
+    with tempfile.TemporaryDirectory() as folder:
+        counts = os.path.join(folder, "counts")
+        valgrind = ["valgrind", "--tool=callgrind", "--separate-threads=yes", f"--callgrind-out-file={counts}", program]
+        closings = len(subprocess.run(valgrind, input=text, capture_output=True, text=True, check=True).stdout.splitlines())
+        workers = 0
+        for path in glob.glob(f"{counts}-*"):
+            if not path.endswith("-01"):
+                with open(path) as file:
+                    workers += sum(int(total) for total in re.findall(r"^totals: (\d+)", file.read(), re.M))
+        annotate = ["callgrind_annotate", "--inclusive=yes", f"{counts}-01"]
+        lines = subprocess.run(annotate, capture_output=True, text=True, check=True).stdout.replace(",", "")
+
+    def inclusive(name):
+        return int(re.search(rf"^ *(\d+) .*{name}", lines, re.M)[1])
+
+    # each closing is made once on one thread and once by one worker
+    one = inclusive("closing::close::") / (2 * closings)
+    rest = inclusive("worker_times::by_workers") / closings - one
+    return one / 1e6, workers / (4 * closings) / 1e6, rest / 1e6
+
+
 def main():
-    sizes = [int(word) for word in sys.argv[1:]] or [3, 20, 64, 128, 256]
+    words = sys.argv[1:]
+    counts = "--count" in words
+    sizes = [int(word) for word in words if word != "--count"] or [3, 20, 64, 128, 256]
     with tempfile.TemporaryDirectory() as folder:
         loops = os.path.join(folder, "processors")
         subprocess.run(["g++", "-O2", "-std=c++17", "-pthread", "-o", loops, os.path.join(TOP, "bench/processors.cpp")], check=True)
@@ -174,6 +203,11 @@ def main():
                 ("intervals, every pair", interval_network(nodes, nodes, 1)),
             )
             for kind, text in kinds:
+                if counts:
+                    one, worker, rest = counted(program, text)
+                    ratio = (worker + rest) / one
+                    print(f"{kind}, {nodes} nodes: one thread {one:.1f} M, each of four workers {worker:.1f}, beside them {rest:.1f} ({ratio:.2f})", flush=True)
+                    continue
                 out = subprocess.run([program], input=text, capture_output=True, text=True, check=True).stdout
                 rows = [line.split() for line in out.splitlines()]
                 if not rows or any(row[3] != "true" for row in rows):

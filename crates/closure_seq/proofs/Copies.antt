@@ -46,6 +46,31 @@ AreRowsOf-none n from to le = record { each = λ x y xy yb ge lt. absurd (omega 
 pub IsReady-copy : (m : Algebra) (copy : CopyState) → IsOpenCopy m copy → IsReady m copy.work.planes copy.work
 IsReady-copy m copy s = record { calculus = s.calculus; few = planes-le copy.work.planes s.planes; enough = s.enough; planes_are = λ _. copy.work.planes; sets = s.sets }
 
+-- a copy of a network is one of some network
+pub IsOpenCopy-taken : (m : Algebra) (words : List ℕ) (copy : CopyState) → IsCopyOf m words copy → IsOpenCopy m copy
+IsOpenCopy-taken m words copy p = record {
+  calculus = p.calculus;
+  planes = p.planes;
+  enough = p.enough;
+  tables = p.tables;
+  sets = AreConverses-in_step m copy.slice.nodes words copy.work p.calculus p.network p.in_step;
+  nodes = p.in_step.nodes;
+  rows = p.rows;
+}
+
+-- other sets, or another queue
+pub IsOpenCopy-work : (m : Algebra) (copy : CopyState) (work : Worklist) → work.nodes ≡ copy.work.nodes → work.planes ≡ copy.work.planes → AreConverses m work → IsOpenCopy m copy →
+    IsOpenCopy m (record copy { slice = record copy.slice { nodes = work.nodes }; work = work })
+IsOpenCopy-work m copy work same planes sets s = record {
+  calculus = s.calculus;
+  planes = subst IsPlanes (sym planes) s.planes;
+  enough = omega (arith, s.enough, planes);
+  tables = subst (λ n. AreBaseTables m n copy.bases) (sym planes) s.tables;
+  sets = sets;
+  nodes = λ _. work.nodes;
+  rows = subst (λ n. AreRowsOf n copy.slice.from copy.slice.to copy.rows) (sym (same ∙ s.nodes)) s.rows;
+}
+
 -- a copy of a network, with some edges queued
 module _ (m : Algebra) (words : List ℕ) (copy : CopyState) (work : Worklist) (p : IsCopyOf m words copy) (rest : work ≡ record copy.work { queued = work.queued }) where
   abbrev pub queued : CopyState
@@ -58,17 +83,7 @@ module _ (m : Algebra) (words : List ℕ) (copy : CopyState) (work : Worklist) (
   sets = AreConverses-in_step m copy.slice.nodes words work p.calculus p.network in_step
 
   IsOpenCopy-queue : IsOpenCopy m queued
-  IsOpenCopy-queue =
-      let planes = ap (λ (y : Worklist). y.planes) rest in
-      record {
-        calculus = p.calculus;
-        planes = subst IsPlanes (sym planes) p.planes;
-        enough = omega (arith, p.enough, planes);
-        tables = subst (λ n. AreBaseTables m n copy.bases) (sym planes) p.tables;
-        sets = sets;
-        nodes = λ _. work.nodes;
-        rows = subst (λ n. AreRowsOf n copy.slice.from copy.slice.to copy.rows) (sym in_step.nodes) p.rows;
-      }
+  IsOpenCopy-queue = IsOpenCopy-work m copy work (ap (λ (y : Worklist). y.nodes) rest) (ap (λ (y : Worklist). y.planes) rest) sets (IsOpenCopy-taken m words copy p)
 
   -- those whose set isn't full
   pub IsSettledCopy-begun : IsBegun work (full_of m) work.nodes → IsSettledCopy m queued
@@ -77,18 +92,6 @@ module _ (m : Algebra) (words : List ℕ) (copy : CopyState) (work : Worklist) (
   -- any, where the network is closed
   pub IsSettledCopy-closed : IsClosed m copy.slice.nodes words → IsSettledCopy m queued
   IsSettledCopy-closed closed = record { is_open = IsOpenCopy-queue; settled = λ i j k t _ _ _. AreClosed-in_step m copy.slice.nodes words work in_step closed i j k t }
-
--- a copy of a network is one of some network
-pub IsOpenCopy-taken : (m : Algebra) (words : List ℕ) (copy : CopyState) → IsCopyOf m words copy → IsOpenCopy m copy
-IsOpenCopy-taken m words copy p = record {
-  calculus = p.calculus;
-  planes = p.planes;
-  enough = p.enough;
-  tables = p.tables;
-  sets = AreConverses-in_step m copy.slice.nodes words copy.work p.calculus p.network p.in_step;
-  nodes = p.in_step.nodes;
-  rows = p.rows;
-}
 
 -- sets made smaller
 pub IsOpenCopy-met : (m : Algebra) (copy : CopyState) (work : Worklist) (bases : List ℕ) → IsMet m copy.work work → bases ≡ copy.bases → IsOpenCopy m copy →

@@ -22,7 +22,7 @@ use calculus_table::{Compose, Memory, Rel, lawful};
 use compose_fast::Tables;
 use edge_propagation::{
     Note, PairSets, Proposals, Span, Sweep, is_stored, load_planes, meet, meet_pair,
-    propagate_noted, sweep_row,
+    meet_pair_unqueued, propagate_noted, sweep_row,
 };
 use std::alloc::Global;
 use std::marker::Model;
@@ -66,6 +66,29 @@ fn meet_pair_planes<C: Compose>(pairs: &mut PairSets, c: &C, i: u32, j: u32, rel
         meet_pair::<C, 4>(pairs, c, i, j, rel);
     } else {
         meet_pair::<C, 8>(pairs, c, i, j, rel);
+    }
+}
+
+/// Intersects the set of `(i, j)` with another, and queues no edge for it, for the number of planes that the sets are
+/// kept in.
+fn meet_pair_unqueued_planes<C: Compose>(pairs: &mut PairSets, c: &C, i: u32, j: u32, rel: Rel)
+    requires planes { IsPlanes pairs.old.planes }
+    requires enough { (C.algebra c.now).size ≤ 8 * pairs.old.planes }
+    requires sets { AreConverses (C.algebra c.now) pairs.old }
+    requires proper { IsProperPair pairs.old.nodes i j }
+    ensures rest { pairs.new ≡ record pairs.old { sets = pairs.new.sets } }
+    ensures sets { AreConverses (C.algebra c.now) pairs.new }
+    ensures set { IsPairMet pairs.old pairs.new i j rel }
+{
+    let planes = pairs.planes();
+    if planes == 1 {
+        meet_pair_unqueued::<C, 1>(pairs, c, i, j, rel);
+    } else if planes == 2 {
+        meet_pair_unqueued::<C, 2>(pairs, c, i, j, rel);
+    } else if planes == 4 {
+        meet_pair_unqueued::<C, 4>(pairs, c, i, j, rel);
+    } else {
+        meet_pair_unqueued::<C, 8>(pairs, c, i, j, rel);
     }
 }
 
@@ -365,6 +388,20 @@ impl SliceCopy {
     {
         self.since = self.pairs.taken();
         meet_pair_planes(&mut self.pairs, c, i, j, rel);
+    }
+
+    /// Intersects the set of the pair `(i, j)` with another. No edge is queued for it, so that the copy may not be
+    /// settled any more.
+    pub fn meet_unqueued<C: Compose>(&mut self, c: &C, i: u32, j: u32, rel: Rel)
+        requires is_open { IsOpenCopy (C.algebra c.now) self.old }
+        requires proper { IsProperPair self.old.slice.nodes i j }
+        ensures is_open { IsOpenCopy (C.algebra c.now) self.new }
+        ensures slice { self.new.slice ≡ self.old.slice }
+        ensures rows { self.new.rows ≡ self.old.rows }
+        ensures set { IsPairMet self.old.work self.new.work i j rel }
+    {
+        self.since = self.pairs.taken();
+        meet_pair_unqueued_planes(&mut self.pairs, c, i, j, rel);
     }
 
     /// Narrows the edges of the slice until they are closed, or there is no room for notes of more. Returns whether no

@@ -13,7 +13,7 @@ mod span;
 mod sweeping;
 
 pub use loading::{is_stored, load_planes, load_queued, store};
-pub use meeting::{meet, meet_pair};
+pub use meeting::{meet, meet_pair, meet_pair_unqueued};
 pub use order::Proposals;
 pub use pairs::{Note, PairSets};
 pub use propagation::{Emptied, propagate, propagate_all, propagate_noted, put_pair, refine};

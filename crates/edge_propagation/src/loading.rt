@@ -119,7 +119,8 @@ pub fn store(net: &mut Net, work: &PairSets)
 }
 
 /// Whether the words of node `i` with greater ones are the sets of their pairs.
-fn is_stored_row(words: &[u64], work: &PairSets, i: u32) -> bool
+fn is_row_stored<const P: usize>(words: &[u64], work: &PairSets, i: u32) -> bool
+    requires planes { work.now.planes ≡ P }
     requires length_is { length words.now ≡ edge_count work.now.nodes }
     requires below { i < work.now.nodes }
     ensures { IsTrue result → (j : ℕ) → i < j → j < work.now.nodes →
@@ -127,7 +128,22 @@ fn is_stored_row(words: &[u64], work: &PairSets, i: u32) -> bool
 {
     let nodes = work.nodes();
     for j in i + 1..nodes {
-        if words[edge_between(nodes, i, j) as usize] != work.set(i, j).word() {
+        if words[edge_between(nodes, i, j) as usize] != work.get::<P>(i, j).word() {
+            return false;
+        }
+    }
+    true
+}
+
+/// Whether the words are the sets of their pairs, in `P` planes.
+fn are_rows_stored<const P: usize>(words: &[u64], work: &PairSets) -> bool
+    requires planes { work.now.planes ≡ P }
+    requires length_is { length words.now ≡ edge_count work.now.nodes }
+    ensures { IsTrue result → IsStored work.now.nodes words.now work.now work.now.nodes }
+{
+    let nodes = work.nodes();
+    for i in 0..nodes {
+        if !is_row_stored::<P>(words, work, i) {
             return false;
         }
     }
@@ -136,16 +152,20 @@ fn is_stored_row(words: &[u64], work: &PairSets, i: u32) -> bool
 
 /// Whether the words are the sets of their pairs.
 pub fn is_stored(words: &[u64], work: &PairSets) -> bool
-    requires { length words.now ≡ edge_count work.now.nodes }
+    requires planes { IsPlanes work.now.planes }
+    requires length_is { length words.now ≡ edge_count work.now.nodes }
     ensures { IsTrue result → IsStored work.now.nodes words.now work.now work.now.nodes }
 {
-    let nodes = work.nodes();
-    for i in 0..nodes {
-        if !is_stored_row(words, work, i) {
-            return false;
-        }
+    let planes = work.planes();
+    if planes == 1 {
+        are_rows_stored::<1>(words, work)
+    } else if planes == 2 {
+        are_rows_stored::<2>(words, work)
+    } else if planes == 4 {
+        are_rows_stored::<4>(words, work)
+    } else {
+        are_rows_stored::<8>(words, work)
     }
-    true
 }
 
 /// Loads the sets of all pairs into `P` planes, and makes the tables of the calculus.

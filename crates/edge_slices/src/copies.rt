@@ -17,8 +17,8 @@
 //! that nothing is known. Each other turn takes an edge off the copy's queue, or the pass has seen less, so that there
 //! are few turns; but that isn't proved, and a bound on their number makes sure that they end.
 
-ghost use Rattle.std.specs.Prelude.{◌≡◌, ◌≢◌, ◌<◌, ◌≤◌, true, length, IfSome};
-ghost use Rattle.network_words.specs.Edge.{edge_count};
+ghost use Rattle.std.specs.Prelude.{◌≡◌, ◌≢◌, ◌<◌, ◌≤◌, true, length, slice_index, IfSome};
+ghost use Rattle.network_words.specs.Edge.{edge_count, edge_at};
 ghost use Rattle.network_words.specs.Network.{IsNetwork};
 ghost use Rattle.edge_table.specs.Opening.{algebra_of};
 ghost use Rattle.closure_seq.specs.Copies.{IsOpenCopy, IsSettledCopy, TakesOver};
@@ -104,31 +104,31 @@ pub(crate) fn follow<C: Compose>(
     others.tell();
 }
 
-/// Reads the word of an edge, that from `i` to `k`, again, and takes it over into the copy if it is less than the pass
-/// had seen. Returns whether it is.
-fn read_edge<C: Compose>(
+/// Reads the words of the edges from `i` to the nodes from `k` on again, until the pass has then seen less of one.
+/// Returns its node and its set.
+pub(crate) fn next_less(
     table: &OpenNet,
     pass: &mut Pass,
-    c: &C,
     snap: &mut Snapshot,
-    copy: &mut SliceCopy,
-    edge: u32,
     i: u32,
     k: u32,
-) -> bool
+) -> Option<(u32, Rel)>
     requires looking { IsLooking table.now pass.old snap.old }
-    requires copy { IsCopyFor (C.algebra c.now) table.now.opening.nodes copy.old }
-    requires edge { edge < edge_count table.now.opening.nodes }
     requires order { i < k }
-    requires below { k < table.now.opening.nodes }
     ensures looks_on { LooksOn table.now pass.old pass.new snap.new }
-    ensures copy { TakesOver (C.algebra c.now) copy.old copy.new }
+    ensures from { IfSome result (λ less. k ≤ less.0) }
+    ensures below { IfSome result (λ less. less.0 < table.now.opening.nodes) }
+    ensures seen { IfSome result (λ less.
+        less.1 ≡ slice_index snap.new (edge_at table.now.opening.nodes i less.0)) }
 {
-    let Some(set) = table.read_again(pass, snap, edge) else {
-        return false;
-    };
-    copy.meet_at(c, i, k, set);
-    true
+    let nodes = table.nodes();
+    if nodes <= k {
+        return None;
+    }
+    let first = edge_between(nodes, i, k);
+    let last = edge_between(nodes, i, nodes - 1);
+    let (edge, set) = table.next_less(pass, snap, first, last + 1)?;
+    Some((k + (edge - first), set))
 }
 
 /// Reads the word of each edge from `i` to a greater node again, and takes over into the copy what is less than the
@@ -147,18 +147,18 @@ fn read_row<C: Compose>(
     ensures looks_on { LooksOn table.now pass.old pass.new snap.new }
     ensures copy { TakesOver (C.algebra c.now) copy.old copy.new }
 {
-    let mut less = false;
-    let nodes = table.nodes();
-    for k in i + 1..nodes {
-        let edge = edge_between(nodes, i, k);
-        less |= read_edge(table, pass, c, snap, copy, edge, i, k);
+    let _nodes = table.nodes();
+    let mut from = i + 1;
+    while let Some((k, set)) = next_less(table, pass, snap, i, from) {
+        copy.meet_at(c, i, k, set);
+        from = k + 1;
     }
-    less
+    from > i + 1
 }
 
 /// Reads the words of the edges from the nodes of a range to greater ones again, and takes over into the copy what is
 /// less than the pass had seen. Returns whether some is.
-pub(crate) fn read_rows<C: Compose>(
+fn read_rows<C: Compose>(
     table: &OpenNet,
     pass: &mut Pass,
     c: &C,

@@ -14,7 +14,7 @@ ghost use Rattle.closure_seq.specs.Copies.{IsSettledCopy};
 ghost use Rattle.edge_slices.specs.Slices.{IsLooking, LooksOn, IsCopyFor, IsSettledFor, IsHeld};
 ghost use Rattle.edge_slices.specs.Slices.{HasClash, IsSliceClosed};
 
-use crate::copies::{Turn, after_empty, follow, read_rows, take_turns};
+use crate::copies::{Turn, after_empty, follow, next_less, take_turns};
 use crate::free_rows::{Side, block_size};
 use crate::others::Others;
 use calculus_table::Compose;
@@ -49,6 +49,49 @@ fn sweep_first<C: Compose>(
         }
     }
     true
+}
+
+/// Reads the word of each edge from `i` to a greater node again, and takes over into the copy what is less than the
+/// pass had seen.
+fn take_row<C: Compose>(
+    table: &OpenNet,
+    pass: &mut Pass,
+    c: &C,
+    snap: &mut Snapshot,
+    copy: &mut SliceCopy,
+    i: u32,
+)
+    requires looking { IsLooking table.now pass.old snap.old }
+    requires copy { IsCopyFor (C.algebra c.now) table.now.opening.nodes copy.old }
+    requires below { i < table.now.opening.nodes }
+    ensures looks_on { LooksOn table.now pass.old pass.new snap.new }
+    ensures copy { IsCopyFor (C.algebra c.now) table.now.opening.nodes copy.new }
+{
+    let _nodes = table.nodes();
+    let mut from = i + 1;
+    while let Some((k, set)) = next_less(table, pass, snap, i, from) {
+        copy.meet_unqueued(c, i, k, set);
+        from = k + 1;
+    }
+}
+
+/// Reads every word again, and takes over into the copy what is less than the pass had seen. No edge is queued for it,
+/// since all rows are swept after that.
+fn take_words<C: Compose>(
+    table: &OpenNet,
+    pass: &mut Pass,
+    c: &C,
+    snap: &mut Snapshot,
+    copy: &mut SliceCopy,
+)
+    requires looking { IsLooking table.now pass.old snap.old }
+    requires copy { IsCopyFor (C.algebra c.now) table.now.opening.nodes copy.old }
+    ensures looks_on { LooksOn table.now pass.old pass.new snap.new }
+    ensures copy { IsCopyFor (C.algebra c.now) table.now.opening.nodes copy.new }
+{
+    for i in 0..table.nodes() {
+        take_row(table, pass, c, snap, copy, i);
+    }
 }
 
 /// Sweeps the row on a side of the copy's rows, which it then belongs to, and narrows the words as it did. Returns
@@ -167,7 +210,7 @@ fn sweep_rows<C: Compose>(
         copy.begin_rows(0);
         return true;
     }
-    let _is_less = read_rows(table, pass, c, snap, copy, 0, nodes);
+    take_words(table, pass, c, snap, copy);
     sweep_free(table, pass, c, snap, copy, others)
 }
 

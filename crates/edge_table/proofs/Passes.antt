@@ -2,7 +2,7 @@
 use Rattle.std.proofs.Common.{◌≡◌, ◌≢◌, ◌↔◌, ℕ, ◌+◌, ◌<◌, ◌≤◌, Bool, true, false, cond, ◌||◌, List, length, refl, sym, ◌∙◌, ap, subst, arith, inl, inr}
 use Rattle.std.specs.Prelude.{bit_and, slice_index, slice_set, nat_lt, sum, IsTrue}
 use Rattle.std.proofs.lemmas.Bool.{cases_lt, cases_eq, lt-ltb, le-ltb, or_cases, false≢true}
-use Rattle.std.proofs.lemmas.List.{length-set, get_or-set_same, get_or-set_other}
+use Rattle.std.proofs.lemmas.List.{length-set, get_or-set_same, get_or-set_other, set-get_or}
 use Rattle.std.proofs.lemmas.Grind.{same_number_lists}
 use Rattle.atomic_table.specs.Table.{Me}
 use Rattle.atomic_table.specs.Seated.{TableId}
@@ -322,3 +322,15 @@ IsReadAgain-more old pass next snap snap' e word less changed h eq shown put dif
             omega arith)
       ];
     }
+
+-- a word that was read again and is the same as before
+pub IsReadAgain-same : (old pass next : PassState) (snap snap' : List ℕ) (e word : ℕ) (changed : Bool) → IsReadAgain old pass snap false → next ≡ record pass { actor = seeing e word pass.actor } →
+    slice_index next.actor.seen e ≡ word → snap' ≡ slice_set snap e word → IsTrue changed ↔ (word ≢ slice_index snap e) → changed ≡ false → IsReadAgain old next snap' false × (snap' ≡ snap)
+IsReadAgain-same old pass next snap snap' e word changed h eq shown put differs stays =
+    let same : word ≡ slice_index snap e = elim (cases_eq word (slice_index snap e)) as (λ _. word ≡ slice_index snap e) [
+      | inl w ↦ w
+      | inr ne ↦ absurd (false≢true (sym stays ∙ differs.1 ne))
+    ] in (
+      subst (λ (b : Bool). IsReadAgain old next snap' b) stays (IsReadAgain-more old pass next snap snap' e word false changed h eq shown put differs),
+      put ∙ ap (slice_set snap e) same ∙ set-get_or snap e 0,
+    )

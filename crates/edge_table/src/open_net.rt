@@ -81,7 +81,7 @@ pub fn open<C: Compose>(
 
 impl OpenNet {
     ghost use Rattle.std.specs.Prelude.{◌≡◌, ◌≢◌, ℕ, ◌<◌, ◌≤◌, ◌↔◌, IsTrue, IfOk, IfSome, None};
-    ghost use Rattle.std.specs.Prelude.{length, sum, bit_and, slice_index};
+    ghost use Rattle.std.specs.Prelude.{length, sum, bit_and, slice_index, slice_set};
     ghost use Rattle.calculus_table.specs.Rel.{IsWithin};
     ghost use Rattle.calculus_table.specs.Composition.{full_of, composition};
     ghost use Rattle.network_words.specs.Edge.{edge_count, edge_between, IsProperPair, IsProperTriple};
@@ -221,25 +221,36 @@ impl OpenNet {
         less
     }
 
-    /// Loads the word of an edge again. Returns its set, if the pass has then seen less of it.
-    pub fn read_again(&self, pass: &mut Pass, snap: &mut Snapshot, edge: u32) -> Option<Rel>
+    /// Loads the words of the edges from the number `from` up to but without `to` again, until the pass has then seen
+    /// less of one. Returns the number of that edge, and its set.
+    pub fn next_less(
+        &self,
+        pass: &mut Pass,
+        snap: &mut Snapshot,
+        from: u32,
+        to: u32,
+    ) -> Option<(u32, Rel)>
         requires pass { IsPassOf self.now pass.old }
         requires snap { snap.old ≡ pass.old.actor.seen }
-        requires edge { edge < edge_count self.now.opening.nodes }
+        requires below { to ≤ edge_count self.now.opening.nodes }
         ensures pass { IsPassOf self.now pass.new }
         ensures reads { ReadsAll pass.old pass.new }
         ensures snap { snap.new ≡ pass.new.actor.seen }
-        ensures set { IfSome result (λ set. (set ≡ slice_index snap.new edge) × (set ≢ slice_index snap.old edge)) }
+        ensures among { IfSome result (λ less. (from ≤ less.0) × (less.0 < to)) }
+        ensures less { IfSome result (λ less. less.1 ≢ slice_index snap.old less.0) }
+        ensures seen { IfSome result (λ less. less.1 ≡ slice_index snap.new less.0) }
+        ensures set { IfSome result (λ less. snap.new ≡ slice_set snap.old less.0 less.1) }
         ensures none { result ≡ None → snap.new ≡ snap.old }
     {
         // The proof needs what every pass keeps, which a use of its fields brings.
         let _weight = &pass.weight;
-        let word = self.load(pass, edge);
-        if snap.take(edge, word) {
-            Some(Rel::of(word))
-        } else {
-            None
+        for edge in from..to {
+            let word = self.load(pass, edge);
+            if snap.take(edge, word) {
+                return Some((edge, Rel::of(word)));
+            }
         }
+        None
     }
 
     /// Two passes that have seen what this one has: the first keeps its facts and the rest of its

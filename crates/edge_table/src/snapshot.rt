@@ -116,8 +116,10 @@ impl Snapshot {
         ensures words { self.new ≡ slice_set self.old edge word }
         ensures changed { IsTrue result ↔ (word ≢ slice_index self.old edge) }
     {
-        let was = self.words[edge as usize];
+        if word == self.words[edge as usize] {
+            return false;
+        }
         self.words[edge as usize] = word;
-        word != was
+        true
     }
 }

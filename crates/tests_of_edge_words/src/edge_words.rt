@@ -280,8 +280,8 @@ fn stated(table: &OpenNet, mut pass: Pass, c: &Calculus, fact: Fact) -> Pass
 }
 
 /// What a second pass peeks at, after the first has stated a fact; whether a third then sees less, after one more fact
-/// and after none; and what it reads of an edge, after a last fact of it.
-type Sight = (u64, bool, bool, Option<u64>);
+/// and after none; and which edge it finds less, and its set, after a last fact.
+type Sight = (u64, bool, bool, (u32, u64));
 
 /// What passes see that look at the facts of another one.
 fn seen_by_others(alloc: Global, c: &Calculus, snap: &mut Snapshot) -> Option<Sight> {
@@ -290,7 +290,8 @@ fn seen_by_others(alloc: Global, c: &Calculus, snap: &mut Snapshot) -> Option<Si
     state_and_look(&table, c, first, second, third, snap)
 }
 
-/// The first pass states facts, the second peeks at the pair of one, and the third reads every edge and then one.
+/// The first pass states facts, the second peeks at the pair of one, and the third reads every edge, and again until
+/// one is less.
 fn state_and_look(
     table: &OpenNet,
     c: &Calculus,
@@ -314,8 +315,8 @@ fn state_and_look(
     let less = table.refresh_again(&mut third, snap);
     let same = table.refresh_again(&mut third, snap);
     state(table, &mut first, c, fact(0, 2, EC));
-    let read = table.read_again(&mut third, snap, 1);
-    Some((rel.word(), less, same, read.map(|rel| rel.word())))
+    let (edge, set) = table.next_less(&mut third, snap, 0, 3)?;
+    Some((rel.word(), less, same, (edge, set.word())))
 }
 
 #[test]
@@ -323,7 +324,7 @@ fn passes_see_what_others_state(rt: HostRuntime) -> Result<(), Fail> {
     let c = rcc8(rt.alloc())?;
     let mut snap = Snapshot::new(rt.alloc(), 3)?;
     let found = seen_by_others(rt.alloc(), &c, &mut snap);
-    assert_same(&rt, found, Some((TPP, true, false, Some(EC))));
+    assert_same(&rt, found, Some((TPP, true, false, (1, EC))));
     assert_words(&rt, snap.words(), &[TPP, EC, NTPP]);
     Ok(())
 }

@@ -1,5 +1,0 @@
-use Rattle.edge_propagation.specs.Propagation.{IsStored}
-use Rattle.edge_propagation.proofs.loading.is_stored.Given as goal
-
-abbrev pub invariant-loop-i : goal.invariant-loop-i
-invariant-loop-i l = IsStored l.work.nodes l.words l.work l.i
