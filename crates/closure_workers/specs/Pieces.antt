@@ -3,7 +3,7 @@ use Rattle.std.specs.Prelude.{◌≡◌, ℕ, ◌<◌, ◌≤◌, ◌^◌, List,
 use Rattle.std.specs.List.{All, Contains}
 use Rattle.calculus_table.specs.Algebra.{Algebra}
 use Rattle.network_words.specs.Edge.{edge_count}
-use Rattle.network_words.specs.Network.{Refines}
+use Rattle.network_words.specs.Network.{IsNetwork, Refines}
 use Rattle.network_words.specs.Closure.{IsClosed}
 use Rattle.edge_table.specs.Opening.{OpenState, IsPassOf, algebra_of}
 use Rattle.closure_workers.specs.declared.pieces.Task.{Task}
@@ -11,12 +11,18 @@ use Rattle.closure_workers.specs.declared.pieces.Piece.{Piece}
 use Rattle.closure_seq.specs.Copies.{CopyState}
 use Rattle.edge_slices.specs.Slices.{HasClash, IsSliceClosed, IsHeld}
 
--- a task of a table: its pass has one part of the weight, has stated nothing and has seen no more than the opening
+-- the table was opened with these words, those of a network
+pub record IsOpenedWith (m : Algebra) (table : OpenState) (words : List ℕ) : Type 0 where
+  pub calculus : m ≡ algebra_of table.opening
+  pub words_are : words ≡ table.opening.words
+  pub network : IsNetwork m table.opening.nodes words
+
+-- a task of a table: its pass has one part of the weight, has stated nothing and has seen just the opening
 pub record IsTaskOf (table : OpenState) (task : Task) : Type 0 where
   pub pass : IsPassOf table task.pass
   pub weight : task.pass.actor.weight ≡ 1
   pub facts : task.pass.actor.mine ≡ []
-  pub opening : Refines task.pass.actor.seen table.opening.words
+  pub seen : task.pass.actor.seen ≡ table.opening.words
   pub order : task.from ≤ task.to
   pub below : task.to ≤ edge_count table.opening.nodes
   pub few : task.number < 2 ^ 31
@@ -32,6 +38,12 @@ pub record IsPieceOf (table : OpenState) (piece : Piece) : Type 0 where
   pub order : piece.from ≤ piece.to
   pub below : piece.to ≤ edge_count table.opening.nodes
   pub held : IsHeld (algebra_of table.opening) piece.held
+
+-- a piece before its work: it has the words of the opening
+pub record IsBegunPiece (table : OpenState) (piece : Piece) : Type 0 where
+  pub of_task : IsPieceOf table piece
+  pub seen : piece.pass.actor.seen ≡ table.opening.words
+  pub snap : piece.snap ≡ table.opening.words
 
 -- copies that pieces hold from one round to the next
 abbrev pub AreHeld : Algebra → List (Option CopyState) → Type 0

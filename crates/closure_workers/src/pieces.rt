@@ -7,11 +7,12 @@ ghost use Rattle.calculus_table.specs.Algebra.{Algebra};
 ghost use Rattle.calculus_table.specs.Composition.{full_of};
 ghost use Rattle.network_words.specs.Edge.{edge_count};
 ghost use Rattle.network_words.specs.declared.TheConstants.{MAX_NODES};
-ghost use Rattle.network_words.specs.Network.{Refines};
+ghost use Rattle.network_words.specs.Network.{IsNetwork};
 ghost use Rattle.narrow_core.specs.Actor.{fresh};
 ghost use Rattle.edge_table.specs.Opening.{IsPassOf, algebra_of};
 ghost use Rattle.edge_slices.specs.Slices.{IsHeld};
-ghost use Rattle.closure_workers.specs.Pieces.{IsTaskOf, IsPieceOf, HasRun, IsDealt, AreDealt, AreHeld};
+ghost use Rattle.closure_workers.specs.Pieces.{IsOpenedWith, IsTaskOf, IsPieceOf, IsBegunPiece, HasRun};
+ghost use Rattle.closure_workers.specs.Pieces.{IsDealt, AreDealt, AreHeld};
 ghost use Rattle.closure_workers.specs.Pieces.{IsBetween, HasSeen};
 
 use calculus_table::{Compose, Memory};
@@ -64,13 +65,27 @@ pub fn is_shared(nodes: u32, size: u32) -> bool {
 /// over 64.
 const SHARED_WORK: u64 = 125_000_000;
 
-/// Whether it pays to share the edges of a network out: where most of them are stated, so that the workers sweep rows
-/// and take few edges off their queues, and where there is work enough. That grows with the cube of the number of
-/// nodes, and with the number of base relations.
+/// Whether sets have five eighths of so many base relations, or fewer, in the mean of every sixteenth of them. Larger
+/// ones become less again and again, and workers look along one in vain as long as they don't know of that.
+fn are_small(words: &[u64], size: u32) -> bool {
+    let mut found: u64 = 0;
+    let mut few: u64 = 0;
+    for word in words.iter().step_by(16) {
+        found = found.wrapping_add(8 * u64::from(word.count_ones()));
+        few = few.wrapping_add(5 * u64::from(size));
+    }
+    found <= few
+}
+
+/// Whether it pays to share the edges of a network out: where most of them are stated, by small sets, so that the
+/// workers sweep rows and take few edges off their queues, and where there is work enough. That grows with the cube of
+/// the number of nodes, and with the number of base relations.
 pub(crate) fn is_work_shared<C: Compose>(net: &Net, c: &C) -> bool {
     let nodes = u64::from(net.nodes());
     let triples = nodes.saturating_mul(nodes).saturating_mul(nodes);
-    triples.saturating_mul(u64::from(c.size())) >= SHARED_WORK && is_dense(net.words(), c.full())
+    triples.saturating_mul(u64::from(c.size())) >= SHARED_WORK
+        && is_dense(net.words(), c.full())
+        && are_small(net.words(), c.size())
 }
 
 /// What sweeping the rows before `i` takes, in thirty-seconds of a block of 16 nodes: a row has a block for each 16
@@ -199,13 +214,13 @@ pub(crate) fn deal(
     Ok((rest, tasks))
 }
 
-/// The piece of a worker, with room for the words that it sees, which it makes itself.
-fn piece_of(alloc: Global, table: &OpenNet, task: Task) -> Result<Piece, Memory>
-    requires { IsTaskOf table.now task }
-    ensures { IfOk result (λ piece. IsPieceOf table.now piece) }
+/// The piece of a worker on a table that was opened with these words, which it copies itself.
+fn piece_of(alloc: Global, table: &OpenNet, words: &[u64], task: Task) -> Result<Piece, Memory>
+    requires opening { words.now ≡ table.now.opening.words }
+    requires task { IsTaskOf table.now task }
+    ensures { IfOk result (λ piece. IsBegunPiece table.now piece) }
 {
-    let nodes = table.nodes();
-    let snap = Snapshot::plain(alloc, nodes * (nodes - 1) / 2)?;
+    let snap = Snapshot::of(alloc, words)?;
     let Task {
         pass,
         from,
@@ -235,7 +250,8 @@ fn close_piece<C: Compose>(
     mut piece: Piece,
 ) -> Piece
     requires calculus { C.algebra c.now ≡ algebra_of table.now.opening }
-    requires piece { IsPieceOf table.now piece }
+    requires piece { IsBegunPiece table.now piece }
+    requires network { IsNetwork (C.algebra c.now) table.now.opening.nodes piece.snap }
     ensures { HasRun (C.algebra c.now) table.now result }
 {
     if piece.held.is_some() {
@@ -269,23 +285,24 @@ fn close_piece<C: Compose>(
     piece
 }
 
-/// Does the work of a task, between the two points of the gate.
+/// Does the work of a task on a table that was opened with these words, between the two points of the gate.
 pub(crate) fn run_task<C: Compose, G: Gate>(
     alloc: Global,
     table: &OpenNet,
+    words: &[u64],
     c: &C,
     gate: &G,
     others: &Others,
     task: Task,
 ) -> Result<Piece, Memory>
-    requires calculus { C.algebra c.now ≡ algebra_of table.now.opening }
+    requires opened { IsOpenedWith (C.algebra c.now) table.now words.now }
     requires task { IsTaskOf table.now task }
     ensures { IfOk result (λ piece. HasRun (C.algebra c.now) table.now piece) }
 {
     let number = task.number;
     gate.pass(number);
     others.come_back();
-    let done = match piece_of(alloc, table, task) {
+    let done = match piece_of(alloc, table, words, task) {
         Ok(piece) => Ok(close_piece(alloc, table, c, others, piece)),
         Err(Memory) => {
             others.leave();

@@ -21,8 +21,7 @@ ghost use Rattle.std.specs.List.{All};
 ghost use Rattle.network_words.specs.Edge.{edge_count};
 ghost use Rattle.network_words.specs.Network.{IsNetwork};
 ghost use Rattle.network_words.specs.Closure.{IsClosed, KeepsClosed, IsClosure};
-ghost use Rattle.edge_table.specs.Opening.{algebra_of, IsPassOf};
-ghost use Rattle.closure_workers.specs.Pieces.{IsTaskOf, HasRun, IsBetween, AreHeld, AreClosedIfSeen};
+ghost use Rattle.closure_workers.specs.Pieces.{IsOpenedWith, IsTaskOf, HasRun, IsBetween, AreHeld, AreClosedIfSeen};
 
 use crate::pieces::{Piece, Task, are_dealt, deal, gather, is_work_shared, run_task};
 use calculus_table::{Compose, Memory, Rel, lawful};
@@ -36,19 +35,20 @@ use std::alloc::Global;
 use std::thread;
 use std::thread::Threads;
 
-/// Runs all tasks at once, each in a thread of its own, the last one first. This thread only waits, since a thread that
-/// began on the processor of another one would have to wait for that.
+/// Runs all tasks on a table that was opened with these words, at once, each in a thread of its own, the last one first.
+/// This thread only waits, since a thread that began on the processor of another one would have to wait for that.
 #[cycle(tasks)]
 fn run_tasks<R: Threads + Sync, C: Compose + Sync, G: Gate + Sync>(
     rt: &R,
     alloc: Global,
     table: &OpenNet,
+    words: &[u64],
     c: &C,
     gate: &G,
     others: &Others,
     mut tasks: Vec<Task>,
 ) -> Result<Vec<Piece>, Memory>
-    requires calculus { C.algebra c.now ≡ algebra_of table.now.opening }
+    requires opened { IsOpenedWith (C.algebra c.now) table.now words.now }
     requires tasks { All (IsTaskOf table.now) tasks.items }
     ensures ran { IfOk result (λ ran. All (HasRun (C.algebra c.now) table.now) ran.items) }
     ensures count { IfOk result (λ ran. length ran.items ≡ length tasks.items) }
@@ -57,18 +57,18 @@ fn run_tasks<R: Threads + Sync, C: Compose + Sync, G: Gate + Sync>(
         return Ok(Vec::new(alloc));
     };
     let work = move || -> Result<Piece, Memory>
-        requires { IsSync C.row × IsSync G.row × (C.algebra c.now ≡ algebra_of table.now.opening)
+        requires { IsSync C.row × IsSync G.row × IsOpenedWith (C.algebra c.now) table.now words.now
             × IsTaskOf table.now last }
         ensures { IfOk result (λ piece. HasRun (C.algebra c.entry.now) table.entry.now piece) }
-    { run_task(alloc, table, c, gate, others, last) };
+    { run_task(alloc, table, words, c, gate, others, last) };
     let others = move || -> Result<Vec<Piece>, Memory>
         requires { IsSync R.row × IsSync C.row × IsSync G.row
-            × (C.algebra c.now ≡ algebra_of table.now.opening)
+            × IsOpenedWith (C.algebra c.now) table.now words.now
             × All (IsTaskOf table.now) tasks.items }
         ensures { IfOk result (λ ran.
             All (HasRun (C.algebra c.entry.now) table.entry.now) ran.items
             × (length ran.items ≡ length tasks.items)) }
-    { run_tasks(rt, alloc, table, c, gate, others, tasks) };
+    { run_tasks(rt, alloc, table, words, c, gate, others, tasks) };
     let (last, ran) = thread::join(rt, work, others);
     let piece = last?;
     let mut all = ran?;
@@ -103,10 +103,10 @@ fn narrow_at_once<R: Threads + Sync, C: Compose + Sync, G: Gate + Sync>(
 {
     lawful(c);
     let edges = net.edges();
-    let others = Others::of(0);
+    let others = Others::who_tell();
     let (table, pass) = open(alloc, net, c, count + 1)?;
     let (home, tasks) = deal(alloc, &table, pass, edges, count, helds, &others)?;
-    let pieces = run_tasks(rt, alloc, &table, c, gate, &others, tasks)?;
+    let pieces = run_tasks(rt, alloc, &table, net.words(), c, gate, &others, tasks)?;
     let is_dealt = are_dealt(&pieces, edges);
     let (pass, snaps) = gather(alloc, &table, home, pieces, helds)?;
     table.close(pass, net);

@@ -12,7 +12,7 @@ use Rattle.network_words.proofs.Edges.{edge_between-forward}
 use Rattle.network_words.proofs.Networks.{Refines-refl, Refines-trans, relation_between-forward, set-cases}
 use Rattle.network_words.proofs.Refinements.{sum-refines, sum-smaller}
 use Rattle.narrow_core.proofs.Sights.{seen-within}
-use Rattle.edge_table.specs.Opening.{OpenState, PassState}
+use Rattle.edge_table.specs.Opening.{OpenState, PassState, IsPassOf}
 use Rattle.edge_table.specs.Passes.{ReadsAll, Narrows, seen_between}
 use Rattle.edge_slices.specs.Slices.{IsLooking, LooksOn, Looks}
 
@@ -35,6 +35,10 @@ LooksOn-refl {t} {p} h = record { looking = h; reads = ReadsAll-refl p }
 
 pub LooksOn-trans : {t : OpenState} {a b c : PassState} {xs ys : List ℕ} → LooksOn t a b xs → LooksOn t b c ys → LooksOn t a c ys
 LooksOn-trans {t} {a} {b} {c} h k = record { looking = k.looking; reads = ReadsAll-trans a b c h.reads k.reads }
+
+-- by a call after which the snapshot is what the pass has seen
+pub LooksOn-next : {t : OpenState} {a b c : PassState} {xs ys : List ℕ} → LooksOn t a b xs → IsPassOf t c → ReadsAll b c → ys ≡ c.actor.seen → LooksOn t a c ys
+LooksOn-next {t} {a} {b} {c} h pass reads snap = record { looking = record { pass = pass; snap = snap }; reads = ReadsAll-trans a b c h.reads reads }
 
 pub Looks-none : {t : OpenState} {P : List ℕ → Type 0} {p : PassState} {xs : List ℕ} → IsLooking t p xs → P p.actor.seen → Looks t P p p xs false
 Looks-none looking h = record {

@@ -17,7 +17,8 @@
 //! that nothing is known. Each other turn takes an edge off the copy's queue, or the pass has seen less, so that there
 //! are few turns; but that isn't proved, and a bound on their number makes sure that they end.
 
-ghost use Rattle.std.specs.Prelude.{◌≡◌, ◌≢◌, ◌<◌, ◌≤◌, true, length, slice_index, IfSome};
+ghost use Rattle.std.specs.Prelude.{◌≡◌, ◌≢◌, ℕ, ◌+◌, ◌-◌, ◌<◌, ◌≤◌, true, length, IfSome};
+ghost use Rattle.network_words.specs.declared.TheConstants.{MAX_NODES};
 ghost use Rattle.network_words.specs.Edge.{edge_count, edge_at};
 ghost use Rattle.network_words.specs.Network.{IsNetwork};
 ghost use Rattle.edge_table.specs.Opening.{algebra_of};
@@ -25,15 +26,18 @@ ghost use Rattle.closure_seq.specs.Copies.{IsOpenCopy, IsSettledCopy, TakesOver}
 ghost use Rattle.edge_slices.specs.Slices.{HasClash, IsSliceClosed};
 ghost use Rattle.edge_slices.specs.Slices.{IsLooking, LooksOn, IsCopyFor, IsSettledFor, ComesTo, IsHeld, IsBegun};
 
-use crate::others::Others;
+use crate::others::Listener;
 use crate::slices::{is_clash, narrow_along};
 use calculus_table::{Compose, Rel};
 use closure_seq::{Note, SliceCopy, Sweep};
 use edge_table::{OpenNet, Pass, Snapshot};
-use network_words::edge_between;
+use network_words::{MAX_NODES, edge_between};
 
 /// The most turns that are taken on a copy.
 const TURNS: u32 = 1_000_000;
+
+/// The most sweeps after the first whole one.
+const SWEEPS: u32 = 16;
 
 /// What a turn on a copy came to.
 #[derive(Clone, Copy, Debug, PartialEq, Eq)]
@@ -89,7 +93,7 @@ pub(crate) fn follow<C: Compose>(
     c: &C,
     snap: &mut Snapshot,
     copy: &mut SliceCopy,
-    others: &Others,
+    listener: &mut Listener<'_>,
 )
     requires looking { IsLooking table.now pass.old snap.old }
     requires calculus { C.algebra c.now ≡ algebra_of table.now.opening }
@@ -100,35 +104,25 @@ pub(crate) fn follow<C: Compose>(
         return;
     }
     narrow_noted(table, pass, c, snap, copy.notes());
+    listener.tell(copy.notes());
     copy.forget_notes();
-    others.tell();
 }
 
-/// Reads the words of the edges from `i` to the nodes from `k` on again, until the pass has then seen less of one.
-/// Returns its node and its set.
-pub(crate) fn next_less(
-    table: &OpenNet,
-    pass: &mut Pass,
-    snap: &mut Snapshot,
-    i: u32,
-    k: u32,
-) -> Option<(u32, Rel)>
-    requires looking { IsLooking table.now pass.old snap.old }
-    requires order { i < k }
-    ensures looks_on { LooksOn table.now pass.old pass.new snap.new }
-    ensures from { IfSome result (λ less. k ≤ less.0) }
-    ensures below { IfSome result (λ less. less.0 < table.now.opening.nodes) }
-    ensures seen { IfSome result (λ less.
-        less.1 ≡ slice_index snap.new (edge_at table.now.opening.nodes i less.0)) }
+/// The edges from `i` to greater nodes: the number of the first one, and the one after that of the last. Where there
+/// are none both are 0.
+pub(crate) fn edges_of_row(nodes: u32, i: u32) -> (u32, u32)
+    requires few { nodes ≤ MAX_NODES }
+    requires below { i < nodes }
+    ensures each { (k : ℕ) → i < k → k < nodes → edge_at nodes i k ≡ result.0 + (k - i - 1) }
+    ensures count { result.1 ≡ result.0 + (nodes - i - 1) }
+    ensures below { result.1 ≤ edge_count nodes }
 {
-    let nodes = table.nodes();
-    if nodes <= k {
-        return None;
+    let count = nodes - i - 1;
+    if count == 0 {
+        return (0, 0);
     }
-    let first = edge_between(nodes, i, k);
-    let last = edge_between(nodes, i, nodes - 1);
-    let (edge, set) = table.next_less(pass, snap, first, last + 1)?;
-    Some((k + (edge - first), set))
+    let first = edge_between(nodes, i, i + 1);
+    (first, first + count)
 }
 
 /// Reads the word of each edge from `i` to a greater node again, and takes over into the copy what is less than the
@@ -147,60 +141,40 @@ fn read_row<C: Compose>(
     ensures looks_on { LooksOn table.now pass.old pass.new snap.new }
     ensures copy { TakesOver (C.algebra c.now) copy.old copy.new }
 {
-    let _nodes = table.nodes();
-    let mut from = i + 1;
-    while let Some((k, set)) = next_less(table, pass, snap, i, from) {
-        copy.meet_at(c, i, k, set);
-        from = k + 1;
+    let (first, end) = edges_of_row(table.nodes(), i);
+    let mut from = first;
+    while let Some((edge, set)) = table.next_less(pass, snap, from, end) {
+        copy.meet_at(c, i, i + 1 + (edge - first), set);
+        from = edge + 1;
     }
-    from > i + 1
+    from > first
 }
 
-/// Reads the words of the edges from the nodes of a range to greater ones again, and takes over into the copy what is
-/// less than the pass had seen. Returns whether some is.
-fn read_rows<C: Compose>(
-    table: &OpenNet,
-    pass: &mut Pass,
-    c: &C,
-    snap: &mut Snapshot,
-    copy: &mut SliceCopy,
-    first: u32,
-    end: u32,
-) -> bool
-    requires looking { IsLooking table.now pass.old snap.old }
-    requires copy { IsCopyFor (C.algebra c.now) table.now.opening.nodes copy.old }
-    requires below { end ≤ table.now.opening.nodes }
-    ensures looks_on { LooksOn table.now pass.old pass.new snap.new }
-    ensures copy { TakesOver (C.algebra c.now) copy.old copy.new }
-{
-    let mut less = false;
-    for i in first..end {
-        less |= read_row(table, pass, c, snap, copy, i);
-    }
-    less
-}
-
-/// Reads the words again that others narrow too, and takes over into the copy what is less than the pass had seen.
-/// Returns whether some is. The rows between the first and the last one of the slice belong to this pass alone.
+/// Reads the words again that others may have made less, row by row, and takes over into the copy what is less than
+/// the pass had seen. Returns whether some is. The rows between the first and the last one of the slice belong to this
+/// pass alone.
 fn read_words<C: Compose>(
     table: &OpenNet,
     pass: &mut Pass,
     c: &C,
     snap: &mut Snapshot,
     copy: &mut SliceCopy,
+    listener: &mut Listener<'_>,
 ) -> bool
     requires looking { IsLooking table.now pass.old snap.old }
     requires copy { IsCopyFor (C.algebra c.now) table.now.opening.nodes copy.old }
     ensures looks_on { LooksOn table.now pass.old pass.new snap.new }
     ensures copy { TakesOver (C.algebra c.now) copy.old copy.new }
 {
-    let nodes = table.nodes();
     let (first, end) = copy.rows();
-    let own = first.saturating_add(1);
-    let last = end.saturating_sub(1).max(own);
-    let before = read_rows(table, pass, c, snap, copy, 0, own.min(nodes));
-    let after = read_rows(table, pass, c, snap, copy, last, nodes);
-    before | after
+    let mut less = false;
+    for i in 0..table.nodes() {
+        let is_own = first < i && i + 1 < end;
+        if listener.has_news(i, is_own) {
+            less |= read_row(table, pass, c, snap, copy, i);
+        }
+    }
+    less
 }
 
 /// Reads the words again as `read_words` does, if that is wanted.
@@ -210,6 +184,7 @@ fn read_if<C: Compose>(
     c: &C,
     snap: &mut Snapshot,
     copy: &mut SliceCopy,
+    listener: &mut Listener<'_>,
     wanted: bool,
 ) -> bool
     requires looking { IsLooking table.now pass.old snap.old }
@@ -217,7 +192,7 @@ fn read_if<C: Compose>(
     ensures looks_on { LooksOn table.now pass.old pass.new snap.new }
     ensures copy { TakesOver (C.algebra c.now) copy.old copy.new }
 {
-    wanted && read_words(table, pass, c, snap, copy)
+    wanted && read_words(table, pass, c, snap, copy, listener)
 }
 
 /// Sweeps the rows of the slice on the copy, and narrows the words as it did after each row. Returns whether no set of
@@ -228,7 +203,7 @@ fn sweep_rows<C: Compose>(
     c: &C,
     snap: &mut Snapshot,
     copy: &mut SliceCopy,
-    others: &Others,
+    listener: &mut Listener<'_>,
     sweep: Sweep,
 ) -> bool
     requires looking { IsLooking table.now pass.old snap.old }
@@ -243,7 +218,7 @@ fn sweep_rows<C: Compose>(
     let (first, end) = copy.rows();
     for i in first..end {
         let going_on = copy.sweep_row(c, i, sweep);
-        follow(table, pass, c, snap, copy, others);
+        follow(table, pass, c, snap, copy, listener);
         if !going_on {
             return false;
         }
@@ -259,7 +234,7 @@ fn sweep_slice<C: Compose>(
     c: &C,
     snap: &mut Snapshot,
     copy: &mut SliceCopy,
-    others: &Others,
+    listener: &mut Listener<'_>,
     times: u32,
 ) -> bool
     requires looking { IsLooking table.now pass.old snap.old }
@@ -271,11 +246,43 @@ fn sweep_slice<C: Compose>(
     ensures settled { result ≡ true → IsSettledCopy (C.algebra c.now) copy.new }
     ensures slice { copy.new.slice ≡ copy.old.slice }
 {
-    if !sweep_rows(table, pass, c, snap, copy, others, Sweep::First) {
+    if !sweep_rows(table, pass, c, snap, copy, listener, Sweep::First) {
         return false;
     }
-    read_if(table, pass, c, snap, copy, times > 0);
-    sweep_rows(table, pass, c, snap, copy, others, Sweep::Whole)
+    read_if(table, pass, c, snap, copy, listener, times > 0);
+    sweep_rows(table, pass, c, snap, copy, listener, Sweep::Whole)
+}
+
+/// Sweeps the slice again, with what others made less meanwhile, as long as the last sweep made sets less more than
+/// half as often as it has edges: that is done sooner than looking at each of these edges by itself. Returns whether no
+/// set of the copy became empty.
+pub(crate) fn sweep_again<C: Compose>(
+    table: &OpenNet,
+    pass: &mut Pass,
+    c: &C,
+    snap: &mut Snapshot,
+    copy: &mut SliceCopy,
+    listener: &mut Listener<'_>,
+) -> bool
+    requires looking { IsLooking table.now pass.old snap.old }
+    requires calculus { C.algebra c.now ≡ algebra_of table.now.opening }
+    requires copy { IsSettledFor (C.algebra c.now) table.now.opening.nodes copy.old }
+    ensures looks_on { LooksOn table.now pass.old pass.new snap.new }
+    ensures settled { result ≡ true → IsSettledCopy (C.algebra c.now) copy.new }
+    ensures slice { copy.new.slice ≡ copy.old.slice }
+{
+    let (from, to) = copy.slice();
+    let many = to.saturating_sub(from) / 2;
+    for _time in 0..SWEEPS {
+        if listener.take_count() <= many {
+            return true;
+        }
+        read_words(table, pass, c, snap, copy, listener);
+        if !sweep_rows(table, pass, c, snap, copy, listener, Sweep::Whole) {
+            return false;
+        }
+    }
+    true
 }
 
 /// What a set of the copy that became empty comes to.
@@ -300,7 +307,7 @@ fn read_on<C: Compose>(
     snap: &mut Snapshot,
     copy: &mut SliceCopy,
     times: u32,
-    others: &Others,
+    listener: &mut Listener<'_>,
 ) -> bool
     requires looking { IsLooking table.now pass.old snap.old }
     requires copy { IsCopyFor (C.algebra c.now) table.now.opening.nodes copy.old }
@@ -308,11 +315,11 @@ fn read_on<C: Compose>(
     ensures copy { TakesOver (C.algebra c.now) copy.old copy.new }
 {
     for time in 0..times {
-        let news = others.news();
-        if read_words(table, pass, c, snap, copy) {
+        let news = listener.others.news();
+        if read_words(table, pass, c, snap, copy, listener) {
             return true;
         }
-        if time + 1 == times || others.are_quiet(news) {
+        if time + 1 == times || listener.others.are_quiet(news) {
             return false;
         }
     }
@@ -328,7 +335,7 @@ fn take_turn<C: Compose>(
     snap: &mut Snapshot,
     copy: &mut SliceCopy,
     times: u32,
-    others: &Others,
+    listener: &mut Listener<'_>,
 ) -> Turn
     requires looking { IsLooking table.now pass.old snap.old }
     requires calculus { C.algebra c.now ≡ algebra_of table.now.opening }
@@ -342,22 +349,23 @@ fn take_turn<C: Compose>(
     ensures slice { copy.new.slice ≡ copy.old.slice }
 {
     let settled = copy.close_rows(c);
-    follow(table, pass, c, snap, copy, others);
+    follow(table, pass, c, snap, copy, listener);
     if !settled {
         return after_empty(table.nodes(), snap.words());
     }
     if !copy.is_idle() {
-        read_if(table, pass, c, snap, copy, times > 1 && copy.is_due());
+        let wanted = times > 1 && copy.is_due();
+        read_if(table, pass, c, snap, copy, listener, wanted);
         return Turn::More;
     }
-    let less = read_on(table, pass, c, snap, copy, times, others);
+    let less = read_on(table, pass, c, snap, copy, times, listener);
     if !less && copy.matches(c, snap.words()) {
         return Turn::Closed;
     }
     if less {
         return Turn::More;
     }
-    others.come_back();
+    listener.others.come_back();
     copy.catch_up(c, snap.words());
     if copy.is_idle() {
         return Turn::Unknown;
@@ -373,7 +381,7 @@ pub(crate) fn take_turns<C: Compose>(
     snap: &mut Snapshot,
     copy: &mut SliceCopy,
     times: u32,
-    others: &Others,
+    listener: &mut Listener<'_>,
 ) -> Turn
     requires looking { IsLooking table.now pass.old snap.old }
     requires calculus { C.algebra c.now ≡ algebra_of table.now.opening }
@@ -385,7 +393,7 @@ pub(crate) fn take_turns<C: Compose>(
     ensures settled { result ≡ Turn.Closed → IsSettledCopy (C.algebra c.now) copy.new }
 {
     for _turn in 0..TURNS {
-        let turn = take_turn(table, pass, c, snap, copy, times, others);
+        let turn = take_turn(table, pass, c, snap, copy, times, listener);
         if turn != Turn::More {
             return turn;
         }
@@ -466,7 +474,7 @@ fn close_copy<C: Compose>(
     copy: &mut SliceCopy,
     is_settled: bool,
     times: u32,
-    others: &Others,
+    listener: &mut Listener<'_>,
 ) -> Turn
     requires looking { IsLooking table.now pass.old snap.old }
     requires calculus { C.algebra c.now ≡ algebra_of table.now.opening }
@@ -478,10 +486,10 @@ fn close_copy<C: Compose>(
         copy.old.slice result }
     ensures settled { result ≡ Turn.Closed → IsSettledCopy (C.algebra c.now) copy.new }
 {
-    if !is_settled && !sweep_slice(table, pass, c, snap, copy, others, times) {
+    if !is_settled && !sweep_slice(table, pass, c, snap, copy, listener, times) {
         return after_empty(table.nodes(), snap.words());
     }
-    take_turns(table, pass, c, snap, copy, times, others)
+    take_turns(table, pass, c, snap, copy, times, listener)
 }
 
 /// Closes the slice on a copy, and holds the copy if that tells that the slice is closed. Returns whether the slice is
@@ -495,7 +503,7 @@ pub(crate) fn close_on_copy<C: Compose>(
     from: u32,
     to: u32,
     times: u32,
-    others: &Others,
+    listener: &mut Listener<'_>,
 ) -> bool
     requires looking { IsLooking table.now pass.old snap.old }
     requires calculus { C.algebra c.now ≡ algebra_of table.now.opening }
@@ -510,13 +518,13 @@ pub(crate) fn close_on_copy<C: Compose>(
     let Some((mut copy, is_settled)) = begun(c, snap, held, table.nodes(), from, to) else {
         return false;
     };
-    match close_copy(table, pass, c, snap, &mut copy, is_settled, times, others) {
+    match close_copy(table, pass, c, snap, &mut copy, is_settled, times, listener) {
         Turn::Closed => {
             *held = Some(copy);
             true
         }
         Turn::Clash => {
-            others.leave();
+            listener.others.leave();
             snap.put_copy(copy);
             true
         }

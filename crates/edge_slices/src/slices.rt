@@ -11,12 +11,13 @@ ghost use Rattle.std.specs.Prelude.{◌≡◌, ℕ, ◌<◌, ◌≤◌, ◌≢�
 ghost use Rattle.network_words.specs.Edge.{edge_count, edge_at};
 ghost use Rattle.network_words.specs.Closure.{IsPairClosed, IsClosedAt};
 ghost use Rattle.network_words.specs.Edge.{IsProperTriple};
+ghost use Rattle.network_words.specs.Network.{IsNetwork};
 ghost use Rattle.edge_table.specs.Opening.{IsPassOf, algebra_of};
 ghost use Rattle.edge_table.specs.Passes.{ReadsAll};
 ghost use Rattle.edge_slices.specs.Slices.{HasClash, IsSliceClosed, IsLooking, Looks, IsListedClosed, IsHeld};
 
 use crate::copies::close_on_copy;
-use crate::others::Others;
+use crate::others::{Listener, Others};
 use crate::taking::close_free_on_copy;
 use calculus_table::{Compose, lawful};
 use closure_seq::SliceCopy;
@@ -234,8 +235,9 @@ pub fn close_slice_with<C: Compose>(
     ensures held { IsHeld (C.algebra c.now) held.new }
     ensures closed { IsSliceClosed (C.algebra c.now) table.now.opening.nodes snap.new from to }
 {
+    let mut listener = Listener::new(others);
     table.refresh(pass, snap);
-    if from < to && close_on_copy(table, pass, c, snap, held, from, to, times, others) {
+    if from < to && close_on_copy(table, pass, c, snap, held, from, to, times, &mut listener) {
         return;
     }
     others.leave();
@@ -247,9 +249,10 @@ pub fn close_slice_with<C: Compose>(
     }
 }
 
-/// Closes the edges of rows that no other worker has, as `close_slice` does, on the snapshot's own copy. Returns its
-/// slice: the edges from the number `result.0` up to but without `result.1`. It has none where there is no room for a
-/// copy, or no row is free. If the copy tells in the end that the slice is closed, it is held for the next time.
+/// Closes the edges of rows that no other worker has, as `close_slice` does, on the snapshot's own copy, from what the
+/// pass has seen. Returns its slice: the edges from the number `result.0` up to but without `result.1`. It has none
+/// where there is no room for a copy, or no row is free. If the copy tells in the end that the slice is closed, it is
+/// held for the next time.
 pub fn close_free_rows<C: Compose>(
     table: &OpenNet,
     pass: &mut Pass,
@@ -261,7 +264,8 @@ pub fn close_free_rows<C: Compose>(
 ) -> (u32, u32)
     requires pass { IsPassOf table.now pass.old }
     requires calculus { C.algebra c.now ≡ algebra_of table.now.opening }
-    requires snap { length snap.old ≡ edge_count table.now.opening.nodes }
+    requires snap { snap.old ≡ pass.old.actor.seen }
+    requires network { IsNetwork (C.algebra c.now) table.now.opening.nodes snap.old }
     requires held { IsHeld (C.algebra c.now) held.old }
     ensures pass { IsPassOf table.now pass.new }
     ensures reads { ReadsAll pass.old pass.new }
@@ -271,8 +275,16 @@ pub fn close_free_rows<C: Compose>(
     ensures below { result.1 ≤ edge_count table.now.opening.nodes }
     ensures closed { IsSliceClosed (C.algebra c.now) table.now.opening.nodes snap.new result.0 result.1 }
 {
-    table.refresh(pass, snap);
-    let (is_closed, from, to) = close_free_on_copy(table, pass, c, snap, held, times, others);
+    let mut listener = Listener::new(others);
+    let (is_closed, from, to) = close_free_on_copy(
+        table,
+        pass,
+        c,
+        snap,
+        held,
+        times,
+        &mut listener,
+    );
     if is_closed {
         return (from, to);
     }

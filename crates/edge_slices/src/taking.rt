@@ -14,9 +14,9 @@ ghost use Rattle.closure_seq.specs.Copies.{IsSettledCopy};
 ghost use Rattle.edge_slices.specs.Slices.{IsLooking, LooksOn, IsCopyFor, IsSettledFor, IsHeld};
 ghost use Rattle.edge_slices.specs.Slices.{HasClash, IsSliceClosed};
 
-use crate::copies::{Turn, after_empty, follow, next_less, take_turns};
+use crate::copies::{Turn, after_empty, edges_of_row, follow, sweep_again, take_turns};
 use crate::free_rows::{Side, block_size};
-use crate::others::Others;
+use crate::others::Listener;
 use calculus_table::Compose;
 use closure_seq::{SliceCopy, Sweep};
 use edge_table::{OpenNet, Pass, Snapshot};
@@ -29,7 +29,7 @@ fn sweep_first<C: Compose>(
     c: &C,
     snap: &mut Snapshot,
     copy: &mut SliceCopy,
-    others: &Others,
+    listener: &mut Listener<'_>,
 ) -> bool
     requires looking { IsLooking table.now pass.old snap.old }
     requires calculus { C.algebra c.now ≡ algebra_of table.now.opening }
@@ -39,11 +39,11 @@ fn sweep_first<C: Compose>(
 {
     let (_first, end) = copy.rows();
     for _turn in 0..table.nodes() {
-        let Some(row) = others.rows.next(end) else {
+        let Some(row) = listener.others.rows.next(end) else {
             return true;
         };
         let going_on = copy.sweep_row(c, row, Sweep::First);
-        follow(table, pass, c, snap, copy, others);
+        follow(table, pass, c, snap, copy, listener);
         if !going_on {
             return false;
         }
@@ -67,22 +67,23 @@ fn take_row<C: Compose>(
     ensures looks_on { LooksOn table.now pass.old pass.new snap.new }
     ensures copy { IsCopyFor (C.algebra c.now) table.now.opening.nodes copy.new }
 {
-    let _nodes = table.nodes();
-    let mut from = i + 1;
-    while let Some((k, set)) = next_less(table, pass, snap, i, from) {
-        copy.meet_unqueued(c, i, k, set);
-        from = k + 1;
+    let (first, end) = edges_of_row(table.nodes(), i);
+    let mut from = first;
+    while let Some((edge, set)) = table.next_less(pass, snap, from, end) {
+        copy.meet_unqueued(c, i, i + 1 + (edge - first), set);
+        from = edge + 1;
     }
 }
 
-/// Reads every word again, and takes over into the copy what is less than the pass had seen. No edge is queued for it,
-/// since all rows are swept after that.
+/// Reads the words again that others may have made less, and takes over into the copy what is less than the pass had
+/// seen. No edge is queued for it, since all rows are swept after that.
 fn take_words<C: Compose>(
     table: &OpenNet,
     pass: &mut Pass,
     c: &C,
     snap: &mut Snapshot,
     copy: &mut SliceCopy,
+    listener: &mut Listener<'_>,
 )
     requires looking { IsLooking table.now pass.old snap.old }
     requires copy { IsCopyFor (C.algebra c.now) table.now.opening.nodes copy.old }
@@ -90,7 +91,9 @@ fn take_words<C: Compose>(
     ensures copy { IsCopyFor (C.algebra c.now) table.now.opening.nodes copy.new }
 {
     for i in 0..table.nodes() {
-        take_row(table, pass, c, snap, copy, i);
+        if listener.has_news(i, false) {
+            take_row(table, pass, c, snap, copy, i);
+        }
     }
 }
 
@@ -102,7 +105,7 @@ fn sweep_beside<C: Compose>(
     c: &C,
     snap: &mut Snapshot,
     copy: &mut SliceCopy,
-    others: &Others,
+    listener: &mut Listener<'_>,
     side: Side,
 ) -> bool
     requires looking { IsLooking table.now pass.old snap.old }
@@ -117,7 +120,7 @@ fn sweep_beside<C: Compose>(
         Side::Before => first == 0 || copy.sweep_before(c),
         Side::After => end >= table.nodes() - 1 || copy.sweep_after(c),
     };
-    follow(table, pass, c, snap, copy, others);
+    follow(table, pass, c, snap, copy, listener);
     going_on
 }
 
@@ -128,7 +131,7 @@ fn sweep_block<C: Compose>(
     c: &C,
     snap: &mut Snapshot,
     copy: &mut SliceCopy,
-    others: &Others,
+    listener: &mut Listener<'_>,
     side: Side,
     size: u32,
 ) -> bool
@@ -140,7 +143,7 @@ fn sweep_block<C: Compose>(
     ensures copy { IsCopyFor (C.algebra c.now) table.now.opening.nodes copy.new }
 {
     for _row in 0..size {
-        if !sweep_beside(table, pass, c, snap, copy, others, side) {
+        if !sweep_beside(table, pass, c, snap, copy, listener, side) {
             return false;
         }
     }
@@ -155,7 +158,7 @@ fn sweep_free<C: Compose>(
     c: &C,
     snap: &mut Snapshot,
     copy: &mut SliceCopy,
-    others: &Others,
+    listener: &mut Listener<'_>,
 ) -> bool
     requires looking { IsLooking table.now pass.old snap.old }
     requires calculus { C.algebra c.now ≡ algebra_of table.now.opening }
@@ -166,18 +169,18 @@ fn sweep_free<C: Compose>(
 {
     let rows = table.nodes() - 1;
     let size = block_size(rows);
-    let Some(begin) = others.rows.begin(rows) else {
+    let Some(begin) = listener.others.rows.begin(rows) else {
         copy.begin_rows(0);
         return true;
     };
     copy.begin_rows(begin.min(rows));
     let mut side = Side::After;
     for _turn in 0..64 {
-        if !sweep_block(table, pass, c, snap, copy, others, side, size) {
+        if !sweep_block(table, pass, c, snap, copy, listener, side, size) {
             return false;
         }
         let (first, end) = copy.rows();
-        let Some(next) = others.rows.take_beside(first, end, rows) else {
+        let Some(next) = listener.others.rows.take_beside(first, end, rows) else {
             return true;
         };
         side = next;
@@ -193,7 +196,7 @@ fn sweep_rows<C: Compose>(
     c: &C,
     snap: &mut Snapshot,
     copy: &mut SliceCopy,
-    others: &Others,
+    listener: &mut Listener<'_>,
 ) -> bool
     requires looking { IsLooking table.now pass.old snap.old }
     requires calculus { C.algebra c.now ≡ algebra_of table.now.opening }
@@ -202,16 +205,17 @@ fn sweep_rows<C: Compose>(
     ensures settled { result ≡ true → IsSettledFor (C.algebra c.now) table.now.opening.nodes copy.new }
     ensures copy { IsCopyFor (C.algebra c.now) table.now.opening.nodes copy.new }
 {
-    if !sweep_first(table, pass, c, snap, copy, others) {
+    if !sweep_first(table, pass, c, snap, copy, listener) {
         return false;
     }
     let nodes = table.nodes();
-    if !others.have_free_rows(nodes - 1) {
+    if !listener.others.have_free_rows(nodes - 1) {
         copy.begin_rows(0);
         return true;
     }
-    take_words(table, pass, c, snap, copy);
-    sweep_free(table, pass, c, snap, copy, others)
+    take_words(table, pass, c, snap, copy, listener);
+    listener.take_count();
+    sweep_free(table, pass, c, snap, copy, listener)
 }
 
 /// Sweeps free rows on the copy, and closes their edges. Returns what that came to, and their slice: the edges from the
@@ -223,7 +227,7 @@ fn close_rows<C: Compose>(
     snap: &mut Snapshot,
     copy: &mut SliceCopy,
     times: u32,
-    others: &Others,
+    listener: &mut Listener<'_>,
 ) -> (Turn, u32, u32)
     requires looking { IsLooking table.now pass.old snap.old }
     requires calculus { C.algebra c.now ≡ algebra_of table.now.opening }
@@ -237,16 +241,19 @@ fn close_rows<C: Compose>(
     ensures clash { result.0 ≡ Turn.Clash → HasClash table.now.opening.nodes snap.new }
     ensures settled { result.0 ≡ Turn.Closed → IsSettledCopy (C.algebra c.now) copy.new }
 {
-    let is_settled = sweep_rows(table, pass, c, snap, copy, others);
+    let is_settled = sweep_rows(table, pass, c, snap, copy, listener);
     let (from, to) = copy.take_rows();
     if !is_settled {
         return (after_empty(table.nodes(), snap.words()), from, to);
     }
     if from == to {
-        others.leave();
+        listener.others.leave();
         return (Turn::Closed, from, to);
     }
-    let turn = take_turns(table, pass, c, snap, copy, times, others);
+    if !sweep_again(table, pass, c, snap, copy, listener) {
+        return (after_empty(table.nodes(), snap.words()), from, to);
+    }
+    let turn = take_turns(table, pass, c, snap, copy, times, listener);
     (turn, from, to)
 }
 
@@ -260,7 +267,7 @@ pub(crate) fn close_free_on_copy<C: Compose>(
     snap: &mut Snapshot,
     held: &mut Option<SliceCopy>,
     times: u32,
-    others: &Others,
+    listener: &mut Listener<'_>,
 ) -> (bool, u32, u32)
     requires looking { IsLooking table.now pass.old snap.old }
     requires calculus { C.algebra c.now ≡ algebra_of table.now.opening }
@@ -282,14 +289,14 @@ pub(crate) fn close_free_on_copy<C: Compose>(
     }
     copy.take_over(c, snap.words(), 0, edges);
     copy.forget_queue();
-    let (turn, from, to) = close_rows(table, pass, c, snap, &mut copy, times, others);
+    let (turn, from, to) = close_rows(table, pass, c, snap, &mut copy, times, listener);
     match turn {
         Turn::Closed => {
             *held = if from < to { Some(copy) } else { None };
             (true, from, to)
         }
         Turn::Clash => {
-            others.leave();
+            listener.others.leave();
             (true, 0, edges)
         }
         Turn::More | Turn::Unknown => (false, from, to),

@@ -64,6 +64,14 @@ impl Snapshot {
         Ok(Snapshot { words, copy: None })
     }
 
+    /// A snapshot of these words, without room for a copy.
+    pub fn of(alloc: Global, words: &[u64]) -> Result<Snapshot, Memory>
+        ensures { IfOk result (λ snap. snap ≡ words.now) }
+    {
+        let words = words.to_vec(alloc).map_err(|_| Memory)?;
+        Ok(Snapshot { words, copy: None })
+    }
+
     /// Makes room for a copy of a network of so many nodes, if they are `COPIED` or more and there is memory for it.
     pub fn make_room(&mut self, alloc: Global, nodes: u32)
         requires bounded { nodes ≤ MAX_NODES }

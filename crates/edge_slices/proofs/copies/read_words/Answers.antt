@@ -1,9 +1,22 @@
-use Rattle.closure_seq.proofs.Copies.{TakesOver-trans}
-use Rattle.edge_slices.proofs.Looks.{LooksOn-trans}
+use Rattle.closure_seq.proofs.Copies.{TakesOver-refl, TakesOver-trans}
+use Rattle.edge_slices.proofs.Looks.{LooksOn-refl, LooksOn-trans}
 use Rattle.edge_slices.proofs.copies.read_words.Goals as goal
+use Rattle.edge_slices.proofs.copies.read_words.Goals.{then-has_news, else-has_news}
 
-pub returns-clause-looks_on : goal.returns-clause-looks_on
-returns-clause-looks_on g c = LooksOn-trans c.read_rows-before.ensures.looks_on c.read_rows-after.ensures.looks_on
+pub loop-i-init : goal.loop-i-init
+loop-i-init g c = record {
+  looks_on = LooksOn-refl c.requires.looking;
+  copy = TakesOver-refl (g.C.Compose.algebra c.args.c.now) c.args.copy.now c.requires.copy.is_open;
+}
 
-pub returns-clause-copy : goal.returns-clause-copy
-returns-clause-copy g c = TakesOver-trans (g.C.Compose.algebra c.args.c.now) _ _ _ c.read_rows-before.ensures.copy c.read_rows-after.ensures.copy
+pub loop-i-preserved : goal.loop-i-preserved
+loop-i-preserved g c = elim c.if-has_news.branch [
+  | then-has_news w ↦ rw (w.pass-is, w.snap-is, w.copy-is) (record {
+    looks_on = LooksOn-trans c.loop-i.invariant.looks_on w.read_row-less.ensures.looks_on;
+    copy = TakesOver-trans (g.C.Compose.algebra c.args.c.now) _ _ _ c.loop-i.invariant.copy w.read_row-less.ensures.copy;
+  })
+  | else-has_news w ↦ rw (w.pass-is, w.snap-is, w.copy-is) (record {
+    looks_on = c.loop-i.invariant.looks_on;
+    copy = c.loop-i.invariant.copy;
+  })
+]

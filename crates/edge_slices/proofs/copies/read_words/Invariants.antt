@@ -1,6 +1,6 @@
 use Rattle.closure_seq.specs.Copies.{TakesOver}
 use Rattle.edge_slices.specs.Slices.{LooksOn}
-use Rattle.edge_slices.proofs.copies.read_rows.Given as goal
+use Rattle.edge_slices.proofs.copies.read_words.Given as goal
 
 abbrev pub invariant-loop-i : goal.invariant-loop-i
 invariant-loop-i g l = record {
