@@ -5,4 +5,5 @@ pub mod Standing
 pub mod EdgeRows
 pub mod Counted
 pub mod Copies
+pub mod Contained
 pub mod TakenRows
