@@ -167,21 +167,20 @@ IsSweptCopy-row m copy work bases i p same row s = record {
 }
 
 -- sets narrowed
-pub IsOpenCopy-refined : (m : Algebra) (copy : CopyState) (work : Worklist) (bases : List ℕ) → IsRefinement m copy.work work → bases ≡ copy.bases → IsOpenCopy m copy →
-    IsOpenCopy m (record copy { work = work; bases = bases })
-IsOpenCopy-refined m copy work bases p same s = record {
-  calculus = s.calculus;
-  planes = subst IsPlanes (sym p.planes) s.planes;
-  enough = omega (arith, s.enough, p.planes);
-  tables = rw (p.planes, same) s.tables;
-  sets = p.sets;
-  nodes = p.nodes ∙ s.nodes;
-  rows = s.rows;
-}
-
 pub IsSettledCopy-refined : (m : Algebra) (copy : CopyState) (work : Worklist) (bases : List ℕ) → IsRefinement m copy.work work → IsSettled m copy.rows work → bases ≡ copy.bases →
     IsSettledCopy m copy → IsSettledCopy m (record copy { work = work; bases = bases })
-IsSettledCopy-refined m copy work bases p settled same s = record { is_open = IsOpenCopy-refined m copy work bases p same s.is_open; settled = settled }
+IsSettledCopy-refined m copy work bases p settled same s = record {
+  is_open = record {
+    calculus = s.is_open.calculus;
+    planes = subst IsPlanes (sym p.planes) s.is_open.planes;
+    enough = omega (arith, s.is_open.enough, p.planes);
+    tables = rw (p.planes, same) s.is_open.tables;
+    sets = p.sets;
+    nodes = p.nodes ∙ s.is_open.nodes;
+    rows = s.is_open.rows;
+  };
+  settled = settled;
+}
 
 -- a copy without queued edges that has the sets of words
 pub IsRangeClosed-copy : (m : Algebra) (copy : CopyState) (words : List ℕ) → IsSettledCopy m copy →

@@ -5,5 +5,4 @@ pub mod Standing
 pub mod EdgeRows
 pub mod Counted
 pub mod Copies
-pub mod Contained
 pub mod TakenRows

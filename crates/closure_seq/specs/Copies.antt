@@ -3,11 +3,10 @@ use Rattle.std.specs.Prelude.{◌≡◌, ℕ, ◌*◌, ◌<◌, ◌≤◌, ◌�
 use Rattle.calculus_table.specs.Algebra.{Algebra}
 use Rattle.calculus_table.specs.Calculus.{IsCalculus}
 use Rattle.network_words.specs.Edge.{edge_at}
-use Rattle.network_words.specs.Network.{IsNetwork, Refines}
-use Rattle.network_words.specs.Closure.{IsClosed}
+use Rattle.network_words.specs.Network.{IsNetwork}
 use Rattle.compose_fast.specs.Planes.{AreBaseTables}
 use Rattle.edge_propagation.specs.Worklist.{Worklist}
-use Rattle.edge_propagation.specs.Propagation.{AreConverses, IsInStep, IsInside, IsAmong, IsSettled}
+use Rattle.edge_propagation.specs.Propagation.{AreConverses, IsInStep, IsAmong, IsSettled}
 use Rattle.edge_propagation.specs.Propagation.{IsPlanes}
 use Rattle.edge_propagation.specs.declared.span.Span.{Span}
 
@@ -72,11 +71,3 @@ pub record TakesOver (m : Algebra) (old new : CopyState) : Type 0 where
   pub swept : (k : ℕ) → IsSweptCopy m old k → IsSweptCopy m new k
   pub slice : new.slice ≡ old.slice
   pub rows : new.rows ≡ old.rows
-
--- the sets contain each closed network within the words
-abbrev pub ContainsClosed : Algebra → List ℕ → Worklist → Type 0
-ContainsClosed m words work = (xs : List ℕ) → IsNetwork m work.nodes xs → IsClosed m work.nodes xs → Refines xs words → IsInside m xs work
-
--- of whatever words: no closed network that was within the old sets is lost
-abbrev pub LosesNoClosed : Algebra → Worklist → Worklist → Type 0
-LosesNoClosed m old new = (words : List ℕ) → ContainsClosed m words old → ContainsClosed m words new

@@ -1,9 +1,9 @@
 //! A copy of a network's sets, on which the edges of a slice are closed by propagation.
 //!
-//! Who narrows the words of a table that others narrow too takes them over into a copy, and closes his slice there. The
-//! copy never loses a closed network that is within the words: so the words are narrowed to its sets. Which of these
-//! became smaller is noted; notes only propose. Whether the slice is closed is told by a comparison at the end: where
-//! no edge is queued, and the words are the sets of the copy, each triple of the slice is closed.
+//! Who narrows the words of a table that others narrow too takes them over into a copy, and closes his slice there.
+//! What that made smaller is noted, triple by triple, so that the same triples narrow the words of the table in the
+//! same order. Notes only propose. Whether the slice is closed is told by a comparison at the end: where no edge is
+//! queued, and the words are the sets of the copy, each triple of the slice is closed.
 //!
 //! A copy is *settled* where each triple of the slice is closed unless one of its source edges is queued. It becomes so
 //! by queueing each edge whose set isn't full, or by a sweep of the rows of the slice, which is less where most edges
@@ -172,17 +172,15 @@ impl Model for SliceCopy {
 }
 
 impl SliceCopy {
-    ghost use Rattle.std.specs.Prelude.{◌≡◌, ℕ, ◌+◌, ◌-◌, ◌<◌, ◌≤◌, List, length, IsTrue, IfOk};
+    ghost use Rattle.std.specs.Prelude.{◌≡◌, ◌+◌, ◌-◌, ◌<◌, ◌≤◌, length, IsTrue, IfOk};
     ghost use Rattle.calculus_table.specs.Algebra.{Algebra};
     ghost use Rattle.network_words.specs.Edge.{edge_count, IsProperPair};
-    ghost use Rattle.network_words.specs.Network.{IsNetwork, relation_between};
+    ghost use Rattle.network_words.specs.Network.{IsNetwork};
     ghost use Rattle.network_words.specs.Closure.{IsClosed, IsRangeClosed};
-    ghost use Rattle.calculus_table.specs.Rel.{IsWithin};
     ghost use Rattle.network_words.specs.declared.TheConstants.{MAX_NODES};
     ghost use Rattle.edge_propagation.specs.Propagation.{IsPairMet, AreRowsMet};
     ghost use Rattle.closure_seq.specs.Copies.{Slice, IsCopyOf, IsOpenCopy, IsSettledCopy, IsSweptCopy};
-    ghost use Rattle.closure_seq.specs.Copies.{TakesOver, AreEdgesOf, ContainsClosed, LosesNoClosed};
-    ghost use Rattle.edge_propagation.specs.Worklist.{set_of};
+    ghost use Rattle.closure_seq.specs.Copies.{TakesOver, AreEdgesOf};
 
     /// Room for copies of networks of so many nodes.
     pub fn new(alloc: Global, nodes: u32) -> Result<SliceCopy, Memory>
@@ -244,7 +242,6 @@ impl SliceCopy {
         requires below { to ≤ edge_count self.old.slice.nodes }
         ensures copy { IsCopyOf (C.algebra c.now) words.now self.new }
         ensures is_open { IsOpenCopy (C.algebra c.now) self.new }
-        ensures contains { ContainsClosed (C.algebra c.now) words.now self.new.work }
         ensures slice { self.new.slice ≡ record { nodes = self.old.slice.nodes; from = from; to = to } }
     {
         self.rows = rows_of(self.pairs.nodes(), from, to);
@@ -261,7 +258,6 @@ impl SliceCopy {
         requires network { IsNetwork (C.algebra c.now) self.old.slice.nodes words.now }
         requires below { to ≤ edge_count self.old.slice.nodes }
         ensures settled { IsSettledCopy (C.algebra c.now) self.new }
-        ensures contains { ContainsClosed (C.algebra c.now) words.now self.new.work }
         ensures slice { self.new.slice ≡ record { nodes = self.old.slice.nodes; from = from; to = to } }
     {
         self.take_over(c, words, from, to);
@@ -284,7 +280,6 @@ impl SliceCopy {
     /// Takes every edge off the queue, so that the rows can be swept from the first one on.
     pub fn forget_queue(&mut self)
         ensures swept { (m : Algebra) → IsOpenCopy m self.old → IsSweptCopy m self.new self.new.rows.first }
-        ensures kept { (m : Algebra) → LosesNoClosed m self.old.work self.new.work }
         ensures slice { self.new.slice ≡ self.old.slice }
         ensures rows { self.new.rows ≡ self.old.rows }
     {
@@ -299,7 +294,6 @@ impl SliceCopy {
         ensures is_open { IsOpenCopy (C.algebra c.now) self.new }
         ensures swept { IsTrue result → sweep ≡ Sweep.Whole → IsSweptCopy (C.algebra c.now) self.old i →
             IsSweptCopy (C.algebra c.now) self.new (i + 1) }
-        ensures kept { LosesNoClosed (C.algebra c.now) self.old.work self.new.work }
         ensures slice { self.new.slice ≡ self.old.slice }
         ensures rows { self.new.rows ≡ self.old.rows }
     {
@@ -311,7 +305,6 @@ impl SliceCopy {
     pub fn begin_rows(&mut self, i: u32)
         requires below { i ≤ self.old.slice.nodes }
         ensures settled { (m : Algebra) → IsOpenCopy m self.old → IsSettledCopy m self.new }
-        ensures kept { (m : Algebra) → LosesNoClosed m self.old.work self.new.work }
         ensures slice { self.new.slice ≡ record { nodes = self.old.slice.nodes; from = 0; to = 0 } }
         ensures rows { self.new.rows ≡ record { first = i; end = i } }
     {
@@ -328,7 +321,6 @@ impl SliceCopy {
         requires below { self.old.rows.end < self.old.slice.nodes }
         ensures is_open { IsOpenCopy (C.algebra c.now) self.new }
         ensures settled { IsTrue result → IsSettledCopy (C.algebra c.now) self.new }
-        ensures kept { LosesNoClosed (C.algebra c.now) self.old.work self.new.work }
         ensures slice { self.new.slice ≡ self.old.slice }
         ensures rows { self.new.rows ≡
             record { first = self.old.rows.first; end = self.old.rows.end + 1 } }
@@ -346,7 +338,6 @@ impl SliceCopy {
         requires some { 0 < self.old.rows.first }
         ensures is_open { IsOpenCopy (C.algebra c.now) self.new }
         ensures settled { IsTrue result → IsSettledCopy (C.algebra c.now) self.new }
-        ensures kept { LosesNoClosed (C.algebra c.now) self.old.work self.new.work }
         ensures slice { self.new.slice ≡ self.old.slice }
         ensures rows { self.new.rows ≡
             record { first = self.old.rows.first - 1; end = self.old.rows.end } }
@@ -364,7 +355,6 @@ impl SliceCopy {
         ensures below { result.1 ≤ edge_count self.old.slice.nodes }
         ensures is_open { (m : Algebra) → IsOpenCopy m self.old → IsOpenCopy m self.new }
         ensures settled { (m : Algebra) → IsSettledCopy m self.old → IsSettledCopy m self.new }
-        ensures work { self.new.work ≡ self.old.work }
         ensures slice { self.new.slice ≡
             record { nodes = self.old.slice.nodes; from = result.0; to = result.1 } }
         ensures rows { self.new.rows ≡ self.old.rows }
@@ -382,8 +372,6 @@ impl SliceCopy {
         ensures is_open { IsOpenCopy (C.algebra c.now) self.new }
         ensures settled { IsSettledCopy (C.algebra c.now) self.old → IsSettledCopy (C.algebra c.now) self.new }
         ensures sets { AreRowsMet words.now self.old.work self.new.work self.old.slice.nodes }
-        ensures contains { ContainsClosed (C.algebra c.now) words.now self.old.work
-            → ContainsClosed (C.algebra c.now) words.now self.new.work }
         ensures slice { self.new.slice ≡ self.old.slice }
         ensures rows { self.new.rows ≡ self.old.rows }
     {
@@ -397,10 +385,6 @@ impl SliceCopy {
         requires proper { IsProperPair self.old.slice.nodes i j }
         ensures copy { TakesOver (C.algebra c.now) self.old self.new }
         ensures set { IsPairMet self.old.work self.new.work i j rel }
-        ensures contains { (words : List ℕ)
-            → IsWithin (relation_between (C.algebra c.now) self.old.slice.nodes words i j) rel
-            → ContainsClosed (C.algebra c.now) words self.old.work
-            → ContainsClosed (C.algebra c.now) words self.new.work }
     {
         self.since = self.pairs.taken();
         meet_pair_planes(&mut self.pairs, c, i, j, rel);
@@ -415,10 +399,6 @@ impl SliceCopy {
         ensures slice { self.new.slice ≡ self.old.slice }
         ensures rows { self.new.rows ≡ self.old.rows }
         ensures set { IsPairMet self.old.work self.new.work i j rel }
-        ensures contains { (words : List ℕ)
-            → IsWithin (relation_between (C.algebra c.now) self.old.slice.nodes words i j) rel
-            → ContainsClosed (C.algebra c.now) words self.old.work
-            → ContainsClosed (C.algebra c.now) words self.new.work }
     {
         self.since = self.pairs.taken();
         meet_pair_unqueued_planes(&mut self.pairs, c, i, j, rel);
@@ -428,32 +408,10 @@ impl SliceCopy {
     /// set became empty.
     pub fn close_rows<C: Compose>(&mut self, c: &C) -> bool
         requires settled { IsSettledCopy (C.algebra c.now) self.old }
-        ensures is_open { IsOpenCopy (C.algebra c.now) self.new }
         ensures settled { IsTrue result → IsSettledCopy (C.algebra c.now) self.new }
-        ensures kept { LosesNoClosed (C.algebra c.now) self.old.work self.new.work }
         ensures slice { self.new.slice ≡ self.old.slice }
     {
         propagate_planes(&mut self.pairs, &mut self.tables, c, self.rows)
-    }
-
-    /// The set of the pair `(i, j)`.
-    #[inline(always)]
-    pub fn set(&self, i: u32, j: u32) -> Rel
-        requires first { i < self.now.work.nodes }
-        requires second { j < self.now.work.nodes }
-        ensures { result ≡ set_of self.now.work i j }
-    {
-        self.pairs.set(i, j)
-    }
-
-    /// Whether the words are the copy's sets.
-    pub fn has_words<C: Compose>(&self, c: &C, words: &[u64]) -> bool
-        requires is_open { IsOpenCopy (C.algebra c.now) self.now }
-        requires length_is { length words.now ≡ edge_count self.now.slice.nodes }
-        ensures { IsTrue result → ContainsClosed (C.algebra c.now) words.now self.now.work }
-    {
-        lawful(c);
-        is_stored(words, &self.pairs)
     }
 
     /// The narrowings since notes were forgotten, the first one first. Nothing is promised of them.

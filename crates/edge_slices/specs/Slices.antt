@@ -3,7 +3,7 @@ use Rattle.std.specs.Prelude.{◌≡◌, ℕ, ◌<◌, ◌≤◌, ◌⊎◌, Boo
 use Rattle.calculus_table.specs.Algebra.{Algebra}
 use Rattle.network_words.specs.Edge.{edge_at}
 use Rattle.network_words.specs.Closure.{IsPairClosed, IsRangeClosed}
-use Rattle.closure_seq.specs.Copies.{Slice, CopyState, IsOpenCopy, IsSettledCopy, ContainsClosed}
+use Rattle.closure_seq.specs.Copies.{Slice, CopyState, IsOpenCopy, IsSettledCopy}
 use Rattle.edge_table.specs.Opening.{OpenState, PassState, IsPassOf}
 use Rattle.edge_table.specs.Passes.{ReadsAll}
 use Rattle.edge_slices.specs.declared.copies.Turn.{Turn}
@@ -48,17 +48,15 @@ pub record Looks (table : OpenState) (P : List ℕ → Type 0) (old new : PassSt
 
 -- ---- the copy
 
--- a copy of n nodes that has the sets of some network, which contain each closed network within the words
-pub record IsCopyFor (m : Algebra) (n : ℕ) (words : List ℕ) (copy : CopyState) : Type 0 where
+-- a copy of n nodes that has the sets of some network
+pub record IsCopyFor (m : Algebra) (n : ℕ) (copy : CopyState) : Type 0 where
   pub is_open : IsOpenCopy m copy
   pub nodes : copy.slice.nodes ≡ n
-  pub contains : ContainsClosed m words copy.work
 
 -- and that is settled for its slice
-pub record IsSettledFor (m : Algebra) (n : ℕ) (words : List ℕ) (copy : CopyState) : Type 0 where
+pub record IsSettledFor (m : Algebra) (n : ℕ) (copy : CopyState) : Type 0 where
   pub settled : IsSettledCopy m copy
   pub nodes : copy.slice.nodes ≡ n
-  pub contains : ContainsClosed m words copy.work
 
 -- what a turn on a copy for this slice of n nodes came to, as far as that is said of the words: the slice is closed, or some set
 -- is empty
@@ -70,10 +68,9 @@ pub record ComesTo (m : Algebra) (n : ℕ) (words : List ℕ) (slice : Slice) (t
 abbrev pub IsHeld : Algebra → Option CopyState → Type 0
 IsHeld m held = IfSome held (IsSettledCopy m)
 
--- a copy for this slice, whose sets contain each closed network within the words, and which may be settled
-pub record IsBegun (m : Algebra) (n : ℕ) (words : List ℕ) (from to : ℕ) (copy : CopyState) (is_settled : Bool) : Type 0 where
+-- a copy for this slice, which may be settled
+pub record IsBegun (m : Algebra) (n from to : ℕ) (copy : CopyState) (is_settled : Bool) : Type 0 where
   pub is_open : IsOpenCopy m copy
-  pub contains : ContainsClosed m words copy.work
   pub settled : is_settled ≡ true → IsSettledCopy m copy
   pub nodes : copy.slice.nodes ≡ n
   pub from_is : copy.slice.from ≡ from

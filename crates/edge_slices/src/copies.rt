@@ -1,10 +1,9 @@
 //! A slice of the edges, closed on a copy of what the pass has seen.
 //!
 //! Where most edges are stated the copy sweeps the rows of the slice first; else it queues those edges. Then it closes
-//! the slice by propagation, as a network is closed on one thread, and notes each set that it made smaller. No closed
-//! network within the words that the pass has seen is lost on the copy: so the pass narrows the words of the table to
-//! these sets, each by one `fetch_and`, and has then seen what the copy has, or less where others narrowed. It narrows
-//! a word once for all that was found of it in a row. When the copy has nothing left to look at, the
+//! the slice by propagation, as a network is closed on one thread, and notes each triple along which it made a set
+//! smaller. The pass narrows the words of the table along these triples in the same order, so that it
+//! has then seen what the copy has, or less where others narrowed. When the copy has nothing left to look at, the
 //! pass reads the words again that others narrow too, and the copy takes over what became less, edge by edge, and looks
 //! only at the triples of these edges. Where that brings nothing new, and the words are the copy's sets, the slice is
 //! closed.
@@ -14,7 +13,7 @@
 //! ends, as long as others seem to have something to look at, since one that ends too early costs a round. The copy is
 //! kept for that round, and takes over what became less meanwhile.
 //!
-//! The notes only propose. If the comparison fails, and the copy has nothing to take over, the answer is
+//! The copy and its notes only propose. If the comparison fails, and the copy has nothing to take over, the answer is
 //! that nothing is known. Each other turn takes an edge off the copy's queue, or the pass has seen less, so that there
 //! are few turns; but that isn't proved, and a bound on their number makes sure that they end.
 
@@ -23,12 +22,12 @@ ghost use Rattle.network_words.specs.declared.TheConstants.{MAX_NODES};
 ghost use Rattle.network_words.specs.Edge.{edge_count, edge_at};
 ghost use Rattle.network_words.specs.Network.{IsNetwork};
 ghost use Rattle.edge_table.specs.Opening.{algebra_of};
-ghost use Rattle.closure_seq.specs.Copies.{IsOpenCopy, IsSettledCopy, TakesOver, ContainsClosed};
+ghost use Rattle.closure_seq.specs.Copies.{IsOpenCopy, IsSettledCopy, TakesOver};
 ghost use Rattle.edge_slices.specs.Slices.{HasClash, IsSliceClosed};
 ghost use Rattle.edge_slices.specs.Slices.{IsLooking, LooksOn, IsCopyFor, IsSettledFor, ComesTo, IsHeld, IsBegun};
 
 use crate::others::Listener;
-use crate::slices::is_clash;
+use crate::slices::{is_clash, narrow_along};
 use calculus_table::{Compose, Rel};
 use closure_seq::{Note, SliceCopy, Sweep};
 use edge_table::{OpenNet, Pass, Snapshot};
@@ -53,55 +52,58 @@ pub(crate) enum Turn {
     Unknown,
 }
 
-/// Narrows the word of a note's edge to the copy's set, unless that is what the pass has seen.
-fn narrow_note(table: &OpenNet, pass: &mut Pass, snap: &mut Snapshot, copy: &SliceCopy, note: Note)
+/// Narrows along the triple of a note, if it is one.
+fn narrow_note<C: Compose>(table: &OpenNet, pass: &mut Pass, c: &C, snap: &mut Snapshot, note: Note)
     requires looking { IsLooking table.now pass.old snap.old }
-    requires copy { IsCopyFor (algebra_of table.now.opening) table.now.opening.nodes snap.old copy.now }
+    requires calculus { C.algebra c.now ≡ algebra_of table.now.opening }
     ensures looks_on { LooksOn table.now pass.old pass.new snap.new }
 {
     let nodes = table.nodes();
     let i = u32::from(note.i.min(note.k));
+    let j = u32::from(note.j);
     let k = u32::from(note.i.max(note.k));
-    if i >= k || k >= nodes {
+    if i >= k || k >= nodes || j >= nodes {
         return;
     }
-    let edge = edge_between(nodes, i, k);
-    let set = copy.set(i, k);
-    if snap.words().get(edge as usize) == Some(&set.word()) {
-        return;
-    }
-    table.narrow_to(pass, snap, edge, set);
+    narrow_along(table, pass, c, snap, i, j, k);
 }
 
-/// Narrows the words of the edges that the copy's notes name to its sets.
-fn narrow_noted(table: &OpenNet, pass: &mut Pass, snap: &mut Snapshot, copy: &SliceCopy)
+/// Narrows along the triples of the notes, one after another.
+fn narrow_noted<C: Compose>(
+    table: &OpenNet,
+    pass: &mut Pass,
+    c: &C,
+    snap: &mut Snapshot,
+    notes: &[Note],
+)
     requires looking { IsLooking table.now pass.old snap.old }
-    requires copy { IsCopyFor (algebra_of table.now.opening) table.now.opening.nodes snap.old copy.now }
+    requires calculus { C.algebra c.now ≡ algebra_of table.now.opening }
     ensures looks_on { LooksOn table.now pass.old pass.new snap.new }
 {
-    for note in copy.notes() {
-        narrow_note(table, pass, snap, copy, *note);
+    for note in notes {
+        narrow_note(table, pass, c, snap, *note);
     }
 }
 
 /// Narrows the words as the copy was narrowed since its notes were forgotten, forgets them, and tells the others if
 /// there were some.
-pub(crate) fn follow(
+pub(crate) fn follow<C: Compose>(
     table: &OpenNet,
     pass: &mut Pass,
+    c: &C,
     snap: &mut Snapshot,
     copy: &mut SliceCopy,
     listener: &mut Listener<'_>,
 )
     requires looking { IsLooking table.now pass.old snap.old }
-    requires copy { IsCopyFor (algebra_of table.now.opening) table.now.opening.nodes snap.old copy.old }
+    requires calculus { C.algebra c.now ≡ algebra_of table.now.opening }
     ensures looks_on { LooksOn table.now pass.old pass.new snap.new }
     ensures copy { copy.new ≡ copy.old }
 {
     if copy.notes().is_empty() {
         return;
     }
-    narrow_noted(table, pass, snap, copy);
+    narrow_noted(table, pass, c, snap, copy.notes());
     listener.tell(copy.notes());
     copy.forget_notes();
 }
@@ -134,16 +136,14 @@ fn read_row<C: Compose>(
     i: u32,
 ) -> bool
     requires looking { IsLooking table.now pass.old snap.old }
-    requires copy { IsCopyFor (C.algebra c.now) table.now.opening.nodes snap.old copy.old }
+    requires copy { IsCopyFor (C.algebra c.now) table.now.opening.nodes copy.old }
     requires below { i < table.now.opening.nodes }
     ensures looks_on { LooksOn table.now pass.old pass.new snap.new }
     ensures copy { TakesOver (C.algebra c.now) copy.old copy.new }
-    ensures contains { ContainsClosed (C.algebra c.now) snap.new copy.new.work }
 {
     let (first, end) = edges_of_row(table.nodes(), i);
     let mut from = first;
-    while let Some(less) = table.next_less(pass, snap, from, end) {
-        let (edge, set) = less;
+    while let Some((edge, set)) = table.next_less(pass, snap, from, end) {
         copy.meet_at(c, i, i + 1 + (edge - first), set);
         from = edge + 1;
     }
@@ -162,10 +162,9 @@ fn read_words<C: Compose>(
     listener: &mut Listener<'_>,
 ) -> bool
     requires looking { IsLooking table.now pass.old snap.old }
-    requires copy { IsCopyFor (C.algebra c.now) table.now.opening.nodes snap.old copy.old }
+    requires copy { IsCopyFor (C.algebra c.now) table.now.opening.nodes copy.old }
     ensures looks_on { LooksOn table.now pass.old pass.new snap.new }
     ensures copy { TakesOver (C.algebra c.now) copy.old copy.new }
-    ensures contains { ContainsClosed (C.algebra c.now) snap.new copy.new.work }
 {
     let (first, end) = copy.rows();
     let mut less = false;
@@ -189,10 +188,9 @@ fn read_if<C: Compose>(
     wanted: bool,
 ) -> bool
     requires looking { IsLooking table.now pass.old snap.old }
-    requires copy { IsCopyFor (C.algebra c.now) table.now.opening.nodes snap.old copy.old }
+    requires copy { IsCopyFor (C.algebra c.now) table.now.opening.nodes copy.old }
     ensures looks_on { LooksOn table.now pass.old pass.new snap.new }
     ensures copy { TakesOver (C.algebra c.now) copy.old copy.new }
-    ensures contains { ContainsClosed (C.algebra c.now) snap.new copy.new.work }
 {
     wanted && read_words(table, pass, c, snap, copy, listener)
 }
@@ -210,9 +208,9 @@ fn sweep_rows<C: Compose>(
 ) -> bool
     requires looking { IsLooking table.now pass.old snap.old }
     requires calculus { C.algebra c.now ≡ algebra_of table.now.opening }
-    requires copy { IsCopyFor (C.algebra c.now) table.now.opening.nodes snap.old copy.old }
+    requires is_open { IsOpenCopy (C.algebra c.now) copy.old }
     ensures looks_on { LooksOn table.now pass.old pass.new snap.new }
-    ensures copy { IsCopyFor (C.algebra c.now) table.now.opening.nodes snap.new copy.new }
+    ensures is_open { IsOpenCopy (C.algebra c.now) copy.new }
     ensures settled { result ≡ true → sweep ≡ Sweep.Whole → IsSettledCopy (C.algebra c.now) copy.new }
     ensures slice { copy.new.slice ≡ copy.old.slice }
 {
@@ -220,7 +218,7 @@ fn sweep_rows<C: Compose>(
     let (first, end) = copy.rows();
     for i in first..end {
         let going_on = copy.sweep_row(c, i, sweep);
-        follow(table, pass, snap, copy, listener);
+        follow(table, pass, c, snap, copy, listener);
         if !going_on {
             return false;
         }
@@ -242,9 +240,9 @@ fn sweep_slice<C: Compose>(
     requires looking { IsLooking table.now pass.old snap.old }
     requires calculus { C.algebra c.now ≡ algebra_of table.now.opening }
     requires length_is { length snap.old ≡ edge_count table.now.opening.nodes }
-    requires copy { IsCopyFor (C.algebra c.now) table.now.opening.nodes snap.old copy.old }
+    requires copy { IsCopyFor (C.algebra c.now) table.now.opening.nodes copy.old }
     ensures looks_on { LooksOn table.now pass.old pass.new snap.new }
-    ensures copy { IsCopyFor (C.algebra c.now) table.now.opening.nodes snap.new copy.new }
+    ensures is_open { IsOpenCopy (C.algebra c.now) copy.new }
     ensures settled { result ≡ true → IsSettledCopy (C.algebra c.now) copy.new }
     ensures slice { copy.new.slice ≡ copy.old.slice }
 {
@@ -268,10 +266,9 @@ pub(crate) fn sweep_again<C: Compose>(
 ) -> bool
     requires looking { IsLooking table.now pass.old snap.old }
     requires calculus { C.algebra c.now ≡ algebra_of table.now.opening }
-    requires copy { IsSettledFor (C.algebra c.now) table.now.opening.nodes snap.old copy.old }
+    requires copy { IsSettledFor (C.algebra c.now) table.now.opening.nodes copy.old }
     ensures looks_on { LooksOn table.now pass.old pass.new snap.new }
     ensures settled { result ≡ true → IsSettledCopy (C.algebra c.now) copy.new }
-    ensures contains { ContainsClosed (C.algebra c.now) snap.new copy.new.work }
     ensures slice { copy.new.slice ≡ copy.old.slice }
 {
     let (from, to) = copy.slice();
@@ -313,10 +310,9 @@ fn read_on<C: Compose>(
     listener: &mut Listener<'_>,
 ) -> bool
     requires looking { IsLooking table.now pass.old snap.old }
-    requires copy { IsCopyFor (C.algebra c.now) table.now.opening.nodes snap.old copy.old }
+    requires copy { IsCopyFor (C.algebra c.now) table.now.opening.nodes copy.old }
     ensures looks_on { LooksOn table.now pass.old pass.new snap.new }
     ensures copy { TakesOver (C.algebra c.now) copy.old copy.new }
-    ensures contains { ContainsClosed (C.algebra c.now) snap.new copy.new.work }
 {
     for time in 0..times {
         let news = listener.others.news();
@@ -328,29 +324,6 @@ fn read_on<C: Compose>(
         }
     }
     false
-}
-
-/// Closes the slice on the copy, as far as there is room for notes, and narrows the words as it did. Returns whether no
-/// set of the copy became empty.
-fn propagate_slice<C: Compose>(
-    table: &OpenNet,
-    pass: &mut Pass,
-    c: &C,
-    snap: &mut Snapshot,
-    copy: &mut SliceCopy,
-    listener: &mut Listener<'_>,
-) -> bool
-    requires looking { IsLooking table.now pass.old snap.old }
-    requires calculus { C.algebra c.now ≡ algebra_of table.now.opening }
-    requires copy { IsSettledFor (C.algebra c.now) table.now.opening.nodes snap.old copy.old }
-    ensures looks_on { LooksOn table.now pass.old pass.new snap.new }
-    ensures copy { IsCopyFor (C.algebra c.now) table.now.opening.nodes snap.new copy.new }
-    ensures settled { result ≡ true → IsSettledFor (C.algebra c.now) table.now.opening.nodes snap.new copy.new }
-    ensures slice { copy.new.slice ≡ copy.old.slice }
-{
-    let going_on = copy.close_rows(c);
-    follow(table, pass, snap, copy, listener);
-    going_on
 }
 
 /// Closes the slice on the copy, narrows the words as it did, and reads every word again if the copy has nothing left
@@ -367,16 +340,17 @@ fn take_turn<C: Compose>(
     requires looking { IsLooking table.now pass.old snap.old }
     requires calculus { C.algebra c.now ≡ algebra_of table.now.opening }
     requires length_is { length snap.old ≡ edge_count table.now.opening.nodes }
-    requires copy { IsSettledFor (C.algebra c.now) table.now.opening.nodes snap.old copy.old }
+    requires copy { IsSettledFor (C.algebra c.now) table.now.opening.nodes copy.old }
     ensures looks_on { LooksOn table.now pass.old pass.new snap.new }
     ensures length_is { length snap.new ≡ edge_count table.now.opening.nodes }
     ensures comes_to { ComesTo (C.algebra c.now) table.now.opening.nodes snap.new
         copy.old.slice result }
     ensures settled { result ≢ Turn.Clash → result ≢ Turn.Unknown → IsSettledCopy (C.algebra c.now) copy.new }
-    ensures contains { ContainsClosed (C.algebra c.now) snap.new copy.new.work }
     ensures slice { copy.new.slice ≡ copy.old.slice }
 {
-    if !propagate_slice(table, pass, c, snap, copy, listener) {
+    let settled = copy.close_rows(c);
+    follow(table, pass, c, snap, copy, listener);
+    if !settled {
         return after_empty(table.nodes(), snap.words());
     }
     if !copy.is_idle() {
@@ -412,7 +386,7 @@ pub(crate) fn take_turns<C: Compose>(
     requires looking { IsLooking table.now pass.old snap.old }
     requires calculus { C.algebra c.now ≡ algebra_of table.now.opening }
     requires length_is { length snap.old ≡ edge_count table.now.opening.nodes }
-    requires copy { IsSettledFor (C.algebra c.now) table.now.opening.nodes snap.old copy.old }
+    requires copy { IsSettledFor (C.algebra c.now) table.now.opening.nodes copy.old }
     ensures looks_on { LooksOn table.now pass.old pass.new snap.new }
     ensures comes_to { ComesTo (C.algebra c.now) table.now.opening.nodes snap.new
         copy.old.slice result }
@@ -446,7 +420,6 @@ fn begin_copy<C: Compose>(c: &C, words: &[u64], copy: &mut SliceCopy, from: u32,
     requires below { to ≤ edge_count copy.old.slice.nodes }
     ensures is_open { IsOpenCopy (C.algebra c.now) copy.new }
     ensures settled { result ≡ true → IsSettledCopy (C.algebra c.now) copy.new }
-    ensures contains { ContainsClosed (C.algebra c.now) words.now copy.new.work }
     ensures slice { copy.new.slice ≡ record { nodes = copy.old.slice.nodes; from = from; to = to } }
 {
     if is_dense(words, c.full()) {
@@ -458,7 +431,7 @@ fn begin_copy<C: Compose>(c: &C, words: &[u64], copy: &mut SliceCopy, from: u32,
 }
 
 /// A copy of the snapshot for the slice, and whether it is settled: the one that is held, with what became less since
-/// if it is for the slice and then has the words of the snapshot; else the one that the snapshot has room for.
+/// if it is for the slice; else the one that the snapshot has room for.
 fn begun<C: Compose>(
     c: &C,
     snap: &mut Snapshot,
@@ -472,16 +445,14 @@ fn begun<C: Compose>(
     requires below { to ≤ edge_count nodes }
     ensures snap { snap.new ≡ snap.old }
     ensures held { IsHeld (C.algebra c.now) held.new }
-    ensures begun { IfSome result (λ r. IsBegun (C.algebra c.now) nodes snap.new from to r.0 r.1) }
+    ensures begun { IfSome result (λ r. IsBegun (C.algebra c.now) nodes from to r.0 r.1) }
 {
     if let Some(mut copy) = held.take()
         && copy.nodes() == nodes
     {
         if copy.is_for(from, to) {
             copy.catch_up(c, snap.words());
-            if copy.has_words(c, snap.words()) {
-                return Some((copy, true));
-            }
+            return Some((copy, true));
         }
         let is_settled = begin_copy(c, snap.words(), &mut copy, from, to);
         return Some((copy, is_settled));
@@ -508,7 +479,7 @@ fn close_copy<C: Compose>(
     requires looking { IsLooking table.now pass.old snap.old }
     requires calculus { C.algebra c.now ≡ algebra_of table.now.opening }
     requires length_is { length snap.old ≡ edge_count table.now.opening.nodes }
-    requires copy { IsCopyFor (C.algebra c.now) table.now.opening.nodes snap.old copy.old }
+    requires copy { IsCopyFor (C.algebra c.now) table.now.opening.nodes copy.old }
     requires settled { is_settled ≡ true → IsSettledCopy (C.algebra c.now) copy.old }
     ensures looks_on { LooksOn table.now pass.old pass.new snap.new }
     ensures comes_to { ComesTo (C.algebra c.now) table.now.opening.nodes snap.new

@@ -10,7 +10,7 @@ ghost use Rattle.network_words.specs.Edge.{edge_count};
 ghost use Rattle.network_words.specs.Network.{IsNetwork};
 ghost use Rattle.edge_table.specs.Opening.{algebra_of};
 ghost use Rattle.network_words.specs.Closure.{IsRangeClosed};
-ghost use Rattle.closure_seq.specs.Copies.{IsOpenCopy, IsSettledCopy, LosesNoClosed};
+ghost use Rattle.closure_seq.specs.Copies.{IsSettledCopy};
 ghost use Rattle.edge_slices.specs.Slices.{IsLooking, LooksOn, IsCopyFor, IsSettledFor, IsHeld};
 ghost use Rattle.edge_slices.specs.Slices.{HasClash, IsSliceClosed};
 
@@ -20,6 +20,36 @@ use crate::others::Listener;
 use calculus_table::Compose;
 use closure_seq::{SliceCopy, Sweep};
 use edge_table::{OpenNet, Pass, Snapshot};
+
+/// Sweeps rows that nobody asked for yet along the sets of few base relations, and narrows the words as it did after
+/// each row. Returns whether no set of the copy became empty.
+fn sweep_first<C: Compose>(
+    table: &OpenNet,
+    pass: &mut Pass,
+    c: &C,
+    snap: &mut Snapshot,
+    copy: &mut SliceCopy,
+    listener: &mut Listener<'_>,
+) -> bool
+    requires looking { IsLooking table.now pass.old snap.old }
+    requires calculus { C.algebra c.now ≡ algebra_of table.now.opening }
+    requires copy { IsCopyFor (C.algebra c.now) table.now.opening.nodes copy.old }
+    ensures looks_on { LooksOn table.now pass.old pass.new snap.new }
+    ensures copy { IsCopyFor (C.algebra c.now) table.now.opening.nodes copy.new }
+{
+    let (_first, end) = copy.rows();
+    for _turn in 0..table.nodes() {
+        let Some(row) = listener.others.rows.next(end) else {
+            return true;
+        };
+        let going_on = copy.sweep_row(c, row, Sweep::First);
+        follow(table, pass, c, snap, copy, listener);
+        if !going_on {
+            return false;
+        }
+    }
+    true
+}
 
 /// Reads the word of each edge from `i` to a greater node again, and takes over into the copy what is less than the
 /// pass had seen.
@@ -32,16 +62,14 @@ fn take_row<C: Compose>(
     i: u32,
 )
     requires looking { IsLooking table.now pass.old snap.old }
-    requires copy { IsCopyFor (C.algebra c.now) table.now.opening.nodes snap.old copy.old }
+    requires copy { IsCopyFor (C.algebra c.now) table.now.opening.nodes copy.old }
     requires below { i < table.now.opening.nodes }
     ensures looks_on { LooksOn table.now pass.old pass.new snap.new }
-    ensures copy { IsCopyFor (C.algebra c.now) table.now.opening.nodes snap.new copy.new }
-    ensures rows { copy.new.rows ≡ copy.old.rows }
+    ensures copy { IsCopyFor (C.algebra c.now) table.now.opening.nodes copy.new }
 {
     let (first, end) = edges_of_row(table.nodes(), i);
     let mut from = first;
-    while let Some(less) = table.next_less(pass, snap, from, end) {
-        let (edge, set) = less;
+    while let Some((edge, set)) = table.next_less(pass, snap, from, end) {
         copy.meet_unqueued(c, i, i + 1 + (edge - first), set);
         from = edge + 1;
     }
@@ -58,61 +86,14 @@ fn take_words<C: Compose>(
     listener: &mut Listener<'_>,
 )
     requires looking { IsLooking table.now pass.old snap.old }
-    requires copy { IsCopyFor (C.algebra c.now) table.now.opening.nodes snap.old copy.old }
+    requires copy { IsCopyFor (C.algebra c.now) table.now.opening.nodes copy.old }
     ensures looks_on { LooksOn table.now pass.old pass.new snap.new }
-    ensures copy { IsCopyFor (C.algebra c.now) table.now.opening.nodes snap.new copy.new }
-    ensures rows { copy.new.rows ≡ copy.old.rows }
+    ensures copy { IsCopyFor (C.algebra c.now) table.now.opening.nodes copy.new }
 {
     for i in 0..table.nodes() {
         if listener.has_news(i, false) {
             take_row(table, pass, c, snap, copy, i);
         }
-    }
-}
-
-/// Sweeps rows that nobody asked for yet along the sets of few base relations, each with what others made less before,
-/// and narrows the words as it did after each row. Returns whether no set of the copy became empty.
-fn sweep_first<C: Compose>(
-    table: &OpenNet,
-    pass: &mut Pass,
-    c: &C,
-    snap: &mut Snapshot,
-    copy: &mut SliceCopy,
-    listener: &mut Listener<'_>,
-) -> bool
-    requires looking { IsLooking table.now pass.old snap.old }
-    requires calculus { C.algebra c.now ≡ algebra_of table.now.opening }
-    requires copy { IsCopyFor (C.algebra c.now) table.now.opening.nodes snap.old copy.old }
-    ensures looks_on { LooksOn table.now pass.old pass.new snap.new }
-    ensures copy { IsCopyFor (C.algebra c.now) table.now.opening.nodes snap.new copy.new }
-{
-    let (_first, end) = copy.rows();
-    for _turn in 0..table.nodes() {
-        let Some(row) = listener.others.rows.next(end) else {
-            return true;
-        };
-        take_words(table, pass, c, snap, copy, listener);
-        let going_on = copy.sweep_row(c, row, Sweep::First);
-        follow(table, pass, snap, copy, listener);
-        if !going_on {
-            return false;
-        }
-    }
-    true
-}
-
-/// Sweeps the row on a side of the copy's rows, which it then belongs to. Returns whether no set became empty.
-fn sweep_side<C: Compose>(c: &C, copy: &mut SliceCopy, side: Side) -> bool
-    requires settled { IsSettledCopy (C.algebra c.now) copy.old }
-    ensures is_open { IsOpenCopy (C.algebra c.now) copy.new }
-    ensures settled { result ≡ true → IsSettledCopy (C.algebra c.now) copy.new }
-    ensures kept { LosesNoClosed (C.algebra c.now) copy.old.work copy.new.work }
-    ensures slice { copy.new.slice ≡ copy.old.slice }
-{
-    let (first, end) = copy.rows();
-    match side {
-        Side::Before => first == 0 || copy.sweep_before(c),
-        Side::After => end >= copy.nodes() - 1 || copy.sweep_after(c),
     }
 }
 
@@ -129,13 +110,17 @@ fn sweep_beside<C: Compose>(
 ) -> bool
     requires looking { IsLooking table.now pass.old snap.old }
     requires calculus { C.algebra c.now ≡ algebra_of table.now.opening }
-    requires copy { IsSettledFor (C.algebra c.now) table.now.opening.nodes snap.old copy.old }
+    requires copy { IsSettledFor (C.algebra c.now) table.now.opening.nodes copy.old }
     ensures looks_on { LooksOn table.now pass.old pass.new snap.new }
-    ensures settled { result ≡ true → IsSettledFor (C.algebra c.now) table.now.opening.nodes snap.new copy.new }
-    ensures copy { IsCopyFor (C.algebra c.now) table.now.opening.nodes snap.new copy.new }
+    ensures settled { result ≡ true → IsSettledFor (C.algebra c.now) table.now.opening.nodes copy.new }
+    ensures copy { IsCopyFor (C.algebra c.now) table.now.opening.nodes copy.new }
 {
-    let going_on = sweep_side(c, copy, side);
-    follow(table, pass, snap, copy, listener);
+    let (first, end) = copy.rows();
+    let going_on = match side {
+        Side::Before => first == 0 || copy.sweep_before(c),
+        Side::After => end >= table.nodes() - 1 || copy.sweep_after(c),
+    };
+    follow(table, pass, c, snap, copy, listener);
     going_on
 }
 
@@ -152,10 +137,10 @@ fn sweep_block<C: Compose>(
 ) -> bool
     requires looking { IsLooking table.now pass.old snap.old }
     requires calculus { C.algebra c.now ≡ algebra_of table.now.opening }
-    requires copy { IsSettledFor (C.algebra c.now) table.now.opening.nodes snap.old copy.old }
+    requires copy { IsSettledFor (C.algebra c.now) table.now.opening.nodes copy.old }
     ensures looks_on { LooksOn table.now pass.old pass.new snap.new }
-    ensures settled { result ≡ true → IsSettledFor (C.algebra c.now) table.now.opening.nodes snap.new copy.new }
-    ensures copy { IsCopyFor (C.algebra c.now) table.now.opening.nodes snap.new copy.new }
+    ensures settled { result ≡ true → IsSettledFor (C.algebra c.now) table.now.opening.nodes copy.new }
+    ensures copy { IsCopyFor (C.algebra c.now) table.now.opening.nodes copy.new }
 {
     for _row in 0..size {
         if !sweep_beside(table, pass, c, snap, copy, listener, side) {
@@ -177,10 +162,10 @@ fn sweep_free<C: Compose>(
 ) -> bool
     requires looking { IsLooking table.now pass.old snap.old }
     requires calculus { C.algebra c.now ≡ algebra_of table.now.opening }
-    requires copy { IsCopyFor (C.algebra c.now) table.now.opening.nodes snap.old copy.old }
+    requires copy { IsCopyFor (C.algebra c.now) table.now.opening.nodes copy.old }
     ensures looks_on { LooksOn table.now pass.old pass.new snap.new }
-    ensures settled { result ≡ true → IsSettledFor (C.algebra c.now) table.now.opening.nodes snap.new copy.new }
-    ensures copy { IsCopyFor (C.algebra c.now) table.now.opening.nodes snap.new copy.new }
+    ensures settled { result ≡ true → IsSettledFor (C.algebra c.now) table.now.opening.nodes copy.new }
+    ensures copy { IsCopyFor (C.algebra c.now) table.now.opening.nodes copy.new }
 {
     let rows = table.nodes() - 1;
     let size = block_size(rows);
@@ -215,10 +200,10 @@ fn sweep_rows<C: Compose>(
 ) -> bool
     requires looking { IsLooking table.now pass.old snap.old }
     requires calculus { C.algebra c.now ≡ algebra_of table.now.opening }
-    requires copy { IsCopyFor (C.algebra c.now) table.now.opening.nodes snap.old copy.old }
+    requires copy { IsCopyFor (C.algebra c.now) table.now.opening.nodes copy.old }
     ensures looks_on { LooksOn table.now pass.old pass.new snap.new }
-    ensures settled { result ≡ true → IsSettledFor (C.algebra c.now) table.now.opening.nodes snap.new copy.new }
-    ensures copy { IsCopyFor (C.algebra c.now) table.now.opening.nodes snap.new copy.new }
+    ensures settled { result ≡ true → IsSettledFor (C.algebra c.now) table.now.opening.nodes copy.new }
+    ensures copy { IsCopyFor (C.algebra c.now) table.now.opening.nodes copy.new }
 {
     if !sweep_first(table, pass, c, snap, copy, listener) {
         return false;
@@ -247,7 +232,7 @@ fn close_rows<C: Compose>(
     requires looking { IsLooking table.now pass.old snap.old }
     requires calculus { C.algebra c.now ≡ algebra_of table.now.opening }
     requires length_is { length snap.old ≡ edge_count table.now.opening.nodes }
-    requires copy { IsCopyFor (C.algebra c.now) table.now.opening.nodes snap.old copy.old }
+    requires copy { IsCopyFor (C.algebra c.now) table.now.opening.nodes copy.old }
     ensures looks_on { LooksOn table.now pass.old pass.new snap.new }
     ensures order { result.1 ≤ result.2 }
     ensures below { result.2 ≤ edge_count table.now.opening.nodes }

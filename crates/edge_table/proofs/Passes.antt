@@ -323,18 +323,6 @@ IsReadAgain-more old pass next snap snap' e word less changed h eq shown put dif
       ];
     }
 
--- one step on a word, of which the snapshot takes over what the pass has then seen
-pub IsReadAgain-sees : (nodes full : ℕ) (id id' : TableId) (v w : Me ℕ ActorState) (snap snap' : List ℕ) (e x : ℕ) (changed : Bool) → id' ≡ id → Sees e x v w → snap ≡ v.0.seen →
-    snap' ≡ slice_set snap e x → IsTrue changed ↔ (x ≢ slice_index snap e) →
-    IsReadAgain (record { id = id; nodes = nodes; full = full; actor = v.0 }) (record { id = id'; nodes = nodes; full = full; actor = w.0 }) snap' changed
-IsReadAgain-sees nodes full id id' v w snap snap' e x changed same s seen put differs =
-    let old : PassState = record { id = id; nodes = nodes; full = full; actor = v.0 } in
-    let new : PassState = record { id = id'; nodes = nodes; full = full; actor = w.0 } in
-    let after : new ≡ record old { actor = seeing e x v.0 } =
-    ap (λ (t : TableId). let p : PassState = record { id = t; nodes = nodes; full = full; actor = w.0 } in p) same
-    ∙ ap (λ (a : ActorState). let p : PassState = record { id = id; nodes = nodes; full = full; actor = a } in p) s.after in
-    IsReadAgain-more old old new snap snap' e x false changed (IsReadAgain-none old snap seen) after s.shown put differs
-
 -- a word that was read again and is the same as before
 pub IsReadAgain-same : (old pass next : PassState) (snap snap' : List ℕ) (e word : ℕ) (changed : Bool) → IsReadAgain old pass snap false → next ≡ record pass { actor = seeing e word pass.actor } →
     slice_index next.actor.seen e ≡ word → snap' ≡ slice_set snap e word → IsTrue changed ↔ (word ≢ slice_index snap e) → changed ≡ false → IsReadAgain old next snap' false × (snap' ≡ snap)

@@ -1,5 +1,5 @@
--- Each step on the table keeps the rule: it is an event of its machine, or narrows a word to a set that loses no closed network.
-use Rattle.std.proofs.Common.{◌≡◌, ℕ, ◌<◌, ◌≤◌, false, true, cond, List, [], length, refl, sym, ◌∙◌, ap, subst, arith, inl, inr, Some}
+-- Each step on the table is an event of its machine, so it keeps the rule.
+use Rattle.std.proofs.Common.{◌≡◌, ℕ, ◌<◌, ◌≤◌, false, true, cond, List, [], length, refl, sym, ◌∙◌, ap, subst, arith, Some}
 use Rattle.std.specs.Prelude.{bit_and, slice_get, slice_index, slice_set, nat_lt, IsTrue}
 use Rattle.std.proofs.lemmas.List.{length-set, get_or-set_same, set-get_or}
 use mathlib.Core.Option.{some}
@@ -10,24 +10,20 @@ use Rattle.std.proofs.lemmas.Option.{slice_get_within}
 use Rattle.calculus_table.specs.Rel.{IsWithin}
 use Rattle.calculus_table.specs.Algebra.{Algebra}
 use Rattle.calculus_table.specs.Composition.{full_of, composition, converse}
-use Rattle.calculus_table.proofs.Sets.{IsWithin-antisym, IsWithin-meet, IsWithin-meet_r}
+use Rattle.calculus_table.proofs.Sets.{IsWithin-antisym, IsWithin-meet_r}
 use Rattle.network_words.specs.declared.fact.Fact.{Fact}
 use Rattle.network_words.specs.Edge.{edge_count, edge_at, edge_between, IsProperTriple}
-use Rattle.network_words.specs.Network.{Refines, relation_between, narrowed_at, oriented}
-use Rattle.network_words.proofs.Networks.{Refines-trans, set-cases}
+use Rattle.network_words.specs.Network.{relation_between, narrowed_at, oriented}
 use Rattle.network_words.proofs.Pairs.{pair-outer, edge_between-lt}
 use Rattle.narrow_core.specs.declared.event.Event.TheVariants.{Assert, Read, Narrow}
 use Rattle.narrow_core.specs.Actor.{ActorState, IsLiveAt, fresh, seeing, stating, giving, joining}
-use Rattle.narrow_core.specs.Machine.{CoreState, IsProperFact, IsProperActor}
+use Rattle.narrow_core.specs.Machine.{CoreState, IsProperFact}
 use Rattle.narrow_core.specs.Bound.{Holds}
 use Rattle.narrow_core.proofs.Places.{get-set_same}
-use Rattle.narrow_core.proofs.Sights.{seen-within, seen-keeps, AreSets-less}
-use Rattle.narrow_core.proofs.Cores.{live-set, weights-one, weights-same, proper-seeing}
-use Rattle.narrow_core.proofs.Bounds.{Move, bound-move}
+use Rattle.narrow_core.proofs.Cores.{weights-one}
 use Rattle.narrow_core.proofs.Runs.{Holds-step, Holds-split, Holds-join}
 use Rattle.edge_table.specs.Opening.{algebra_of}
 use Rattle.edge_table.specs.Rule.{core_of, IsKept, Sees, States, Weighs, no_view}
-use Rattle.edge_table.specs.Passes.{LosesNone}
 use Rattle.edge_table.specs.declared.rule.Opening.{Opening}
 use Rattle.edge_table.proofs.Places.{get-found, take-set_below, take-index}
 
@@ -181,76 +177,6 @@ narrows o slots id i j k y a live triple turned s kept homes found fits =
       },
     )
 
--- what narrowing the word of an edge to a set with which no closed network is lost leaves
-move-narrowed : (m : Algebra) (n : ℕ) (words : List ℕ) (e y : ℕ) (a : ActorState) → e < length words → LosesNone m n a.seen e y →
-    let x = bit_and (slice_index words e) y in
-    Move m n words (slice_set words e x) a (seeing e x a)
-move-narrowed m n words e y a below none =
-    let x = bit_and (slice_index words e) y in
-    let after = slice_set words e x in
-    let less : Refines after words = seen-within words e y in
-    record {
-      live = refl;
-      weight = refl;
-      less = less;
-      sees = λ h. subst (λ z. Refines after (slice_set a.seen e (bit_and (slice_index a.seen e) z))) (get_or-set_same words e x 0 below)
-          (seen-keeps after a.seen e (Refines-trans after words a.seen less h));
-      sight = seen-within a.seen e x;
-      facts = λ xs h. h;
-      stated = λ h. h;
-      seen_stated = λ h. h;
-      kept = λ xs net closed w seen facts. record {
-        each = λ d. elim (set-cases words e x d) [
-          | inl same ↦ rw same (w.each d)
-          | inr here ↦ rw (here.1, here.0) (IsWithin-meet _ _ _ (w.each e) (none xs net closed seen))
-        ];
-      };
-    }
-
--- the bound holds after it
-Holds-narrowed : (m : Algebra) (c : CoreState) (e y id : ℕ) (a : ActorState) → Holds m c → IsLiveAt c.actors id a → e < length c.words → LosesNone m c.nodes a.seen e y →
-    let n = bit_and (slice_index c.words e) y in
-    Holds m (after_step c e n id (seeing e n a))
-Holds-narrowed m c e y id a h live below none =
-    let n = bit_and (slice_index c.words e) y in
-    let words = slice_set c.words e n in
-    let w = seeing e n a in
-    let move : Move m c.nodes c.words words a w = move-narrowed m c.nodes c.words e y a below none in
-    record {
-      calculus = h.calculus;
-      full = h.full;
-      core = record {
-        opening = h.core.opening;
-        words = AreSets-less c.nodes c.full c.words words h.core.words (length-set c.words e n) move.less;
-        actors = live-set c.actors id w (IsProperActor c.nodes c.full) (λ _. proper-seeing c.nodes c.full e n a (h.core.actors id a live)) (λ j b d t. h.core.actors j b t);
-        weights = weights-same c.opening_weight c.actors id a w live.is_there refl refl h.core.weights;
-      };
-      bound = bound-move m c words id a w h.bound live move;
-    }
-
--- with a set with which no closed network is lost that is within what the pass has seen
-pub narrows_to : (o : Opening) (slots id e y : ℕ) (a : ActorState) → IsTrue a.is_live → e < edge_count o.nodes → LosesNone (algebra_of o) o.nodes a.seen e y →
-    Allows (IsKept o) slots id (a, []) e (λ n. bit_and n y) (λ n w. Sees e (bit_and n y) (a, []) w)
-narrows_to o slots id e y a live below none s kept homes found fits =
-    let m = algebra_of o in
-    let c = core_of o s in
-    let at : IsAt o s id a = is_at o s id a kept live found in
-    let word : slice_index c.words e ≡ slice_index s.words e = take-index (edge_count o.nodes) s.words e 0 below in
-    let n = bit_and (slice_index s.words e) y in
-    let w = seeing e n a in
-    let next : Holds m (after_step c e n id w) = subst (λ x. Holds m (after_step c e (bit_and x y) id (seeing e (bit_and x y) a))) word
-    (Holds-narrowed m c e y id a kept.holds at.live (omega (arith, at.words, below)) none) in (
-      w,
-      keeps,
-      tt,
-      IsKept-stepped o s e n id w kept next,
-      record {
-        after = refl;
-        carries = refl;
-        shown = shown-after m c e n id a next at.below live (omega (arith, at.words, below)) (omega (arith, at.seen, below));
-      },
-    )
-
 -- with the set of a fact, which the pass states
 pub asserts : (o : Opening) (slots id y : ℕ) (fact : Fact) (a : ActorState) → IsTrue a.is_live → IsProperFact o.nodes (full_of (algebra_of o)) fact →
     y ≡ oriented (algebra_of o) fact.i fact.j fact.rel →
@@ -333,11 +259,6 @@ seat_narrows o slots id e i j k y me alone live triple edge turned =
     subst (λ d. Allows (IsKept o) slots id me d (λ n. bit_and n y) (λ n w. Sees d (bit_and n y) me w)) (sym edge)
     (subst (λ (v : Me ℕ ActorState). Allows (IsKept o) slots id v (edge_between o.nodes i k) (λ n. bit_and n y) (λ n w. Sees (edge_between o.nodes i k) (bit_and n y) v w)) (sym (me_alone me alone))
     (narrows o slots id i j k y me.0 live triple turned))
-
-pub seat_narrows_to : (o : Opening) (slots id e y : ℕ) (me : Me ℕ ActorState) → me.1 ≡ [] → IsTrue me.0.is_live → e < edge_count o.nodes → LosesNone (algebra_of o) o.nodes me.0.seen e y →
-    Allows (IsKept o) slots id me e (λ n. bit_and n y) (λ n w. Sees e (bit_and n y) me w)
-seat_narrows_to o slots id e y me alone live below none =
-    subst (λ (v : Me ℕ ActorState). Allows (IsKept o) slots id v e (λ n. bit_and n y) (λ n w. Sees e (bit_and n y) v w)) (sym (me_alone me alone)) (narrows_to o slots id e y me.0 live below none)
 
 pub seat_asserts : (o : Opening) (slots id e y : ℕ) (fact : Fact) (me : Me ℕ ActorState) → me.1 ≡ [] → IsTrue me.0.is_live → IsProperFact o.nodes (full_of (algebra_of o)) fact →
     e ≡ edge_between o.nodes fact.i fact.j → y ≡ oriented (algebra_of o) fact.i fact.j fact.rel →

@@ -1,8 +1,6 @@
--- What the calls on a table do to a pass: each is an event of the machine, or a few, as far as a pass can see it, or it narrows a
--- word to a set that loses no closed network.
-use Rattle.std.specs.Prelude.{◌≡◌, ℕ, List, length, bit_and, slice_index}
+-- What the calls on a table do to a pass: each is an event of the machine, or a few, as far as a pass can see it.
+use Rattle.std.specs.Prelude.{◌≡◌, ℕ, List, length, bit_and}
 use Rattle.std.specs.List.{All}
-use Rattle.calculus_table.specs.Rel.{IsWithin}
 use Rattle.calculus_table.specs.Algebra.{Algebra}
 use Rattle.calculus_table.specs.Composition.{composition}
 use Rattle.network_words.specs.declared.fact.Fact.{Fact}
@@ -45,15 +43,6 @@ pub record ReadsAndNarrows (m : Algebra) (i j k : ℕ) (old new : PassState) : T
   pub reads : Reads (edge_between old.nodes i j) old first
   pub reads_next : Reads (edge_between first.nodes j k) first second
   pub narrows : Narrows m i j k second new
-
--- no closed network within the words has more on the edge than the set
-abbrev pub LosesNone : Algebra → ℕ → List ℕ → ℕ → ℕ → Type 0
-LosesNone m n words edge rel = (xs : List ℕ) → IsNetwork m n xs → IsClosed m n xs → Refines xs words → IsWithin (slice_index xs edge) rel
-
--- the pass has narrowed the edge's word to the set, whatever word it found, and has seen the result
-pub record NarrowsTo (edge rel : ℕ) (old new : PassState) : Type 0 where
-  pub word : ℕ
-  pub after : new ≡ record old { actor = seeing edge (bit_and word rel) old.actor }
 
 -- the pass has read each edge once, so that it has seen less of some and nothing else of it changed
 pub record ReadsAll (old new : PassState) : Type 0 where

@@ -2,12 +2,10 @@
 //!
 //! Every step is one atomic instruction on one word: a load, or a `fetch_and` with a set. A step is an
 //! event of the machine of `narrow_core`, whose actors are the passes, so the bound of that machine is
-//! the rule of the table: it holds between any two steps of anyone. One step is no event of it, and keeps
-//! the same bound: a word narrowed to a set with which no closed network is lost that is within what the
-//! pass has seen. A word that a pass loads is what the pass has then seen of the edge, since words only
-//! become less and never less than any pass has seen. No call waits, and none takes memory but `open`:
-//! nothing is locked, and `fetch_and` is one instruction. A narrowing costs one composition, or none, and
-//! one `fetch_and`, a refresh one load for each edge.
+//! the rule of the table: it holds between any two steps of anyone. A word that a pass loads is what the
+//! pass has then seen of the edge, since words only become less and never less than any pass has seen.
+//! No call waits, and none takes memory but `open`: nothing is locked, and `fetch_and` is one
+//! instruction. A narrowing costs one composition and one `fetch_and`, a refresh one load for each edge.
 ghost use Rattle.std.specs.Prelude.{◌≡◌, ◌<◌, ◌≤◌, IfOk};
 ghost use Rattle.network_words.specs.Network.{IsNetwork};
 ghost use Rattle.narrow_core.specs.Actor.{fresh};
@@ -94,7 +92,7 @@ impl OpenNet {
     ghost use Rattle.narrow_core.specs.Machine.{IsProperFact};
     ghost use Rattle.edge_table.specs.Opening.{IsPassOf, algebra_of, opening_over};
     ghost use Rattle.edge_table.specs.Passes.{seen_between, Reads, Asserts, Narrows, ReadsAndNarrows};
-    ghost use Rattle.edge_table.specs.Passes.{ReadsAll, AreClosedWords, LosesNone, NarrowsTo};
+    ghost use Rattle.edge_table.specs.Passes.{ReadsAll, AreClosedWords};
 
     /// The number of nodes.
     pub fn nodes(&self) -> u32
@@ -183,29 +181,6 @@ impl OpenNet {
         let along = snap.compose(c, self.nodes, i, j, k);
         let word = self.narrow_by(pass, c, i, j, k, along);
         snap.take(edge_between(self.nodes, i, k), word)
-    }
-
-    /// Narrows the word of an edge to a set with which no closed network is lost that is within what the
-    /// pass has seen: by one `fetch_and`, without a composition. The snapshot, which is what the pass has
-    /// seen, takes over what is left.
-    pub fn narrow_to(&self, pass: &mut Pass, snap: &mut Snapshot, edge: u32, rel: Rel)
-        requires pass { IsPassOf self.now pass.old }
-        requires snap { snap.old ≡ pass.old.actor.seen }
-        requires below { edge < edge_count self.now.opening.nodes }
-        requires kept { LosesNone (algebra_of self.now.opening) self.now.opening.nodes
-            pass.old.actor.seen edge rel }
-        ensures pass { IsPassOf self.now pass.new }
-        ensures narrows { NarrowsTo edge rel pass.old pass.new }
-        ensures snap { snap.new ≡ pass.new.actor.seen }
-        ensures within { IsWithin (slice_index snap.new edge) rel }
-        ensures reads { ReadsAll pass.old pass.new }
-    {
-        let set = rel.word();
-        let found = self
-            .table
-            .shared
-            .fetch_and::<Narrowing>(&mut pass.seat, edge as usize, set);
-        snap.take(edge, found & set);
     }
 
     /// Loads every word, in edge order. The snapshot is then what the pass has seen.

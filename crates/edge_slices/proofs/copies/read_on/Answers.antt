@@ -6,14 +6,12 @@ pub loop-time-init : goal.loop-time-init
 loop-time-init g c = record {
   looks_on = LooksOn-refl c.requires.looking;
   copy = TakesOver-refl (g.C.Compose.algebra c.args.c.now) c.args.copy.now c.requires.copy.is_open;
-  contains = c.requires.copy.contains;
 }
 
 pub loop-time-preserved : goal.loop-time-preserved
 loop-time-preserved g c = record {
   looks_on = LooksOn-trans c.loop-time.invariant.looks_on c.read_words.ensures.looks_on;
   copy = TakesOver-trans (g.C.Compose.algebra c.args.c.now) _ _ _ c.loop-time.invariant.copy c.read_words.ensures.copy;
-  contains = c.read_words.ensures.contains;
 }
 
 pub returns-then-read_words-clause-looks_on : goal.returns-then-read_words-clause-looks_on

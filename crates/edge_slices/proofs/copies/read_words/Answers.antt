@@ -7,7 +7,6 @@ pub loop-i-init : goal.loop-i-init
 loop-i-init g c = record {
   looks_on = LooksOn-refl c.requires.looking;
   copy = TakesOver-refl (g.C.Compose.algebra c.args.c.now) c.args.copy.now c.requires.copy.is_open;
-  contains = c.requires.copy.contains;
 }
 
 pub loop-i-preserved : goal.loop-i-preserved
@@ -15,11 +14,9 @@ loop-i-preserved g c = elim c.if-has_news.branch [
   | then-has_news w ↦ rw (w.pass-is, w.snap-is, w.copy-is) (record {
     looks_on = LooksOn-trans c.loop-i.invariant.looks_on w.read_row-less.ensures.looks_on;
     copy = TakesOver-trans (g.C.Compose.algebra c.args.c.now) _ _ _ c.loop-i.invariant.copy w.read_row-less.ensures.copy;
-    contains = w.read_row-less.ensures.contains;
   })
   | else-has_news w ↦ rw (w.pass-is, w.snap-is, w.copy-is) (record {
     looks_on = c.loop-i.invariant.looks_on;
     copy = c.loop-i.invariant.copy;
-    contains = c.loop-i.invariant.contains;
   })
 ]

@@ -1,4 +1,4 @@
-use Rattle.closure_seq.specs.Copies.{TakesOver, ContainsClosed}
+use Rattle.closure_seq.specs.Copies.{TakesOver}
 use Rattle.edge_slices.specs.Slices.{LooksOn}
 use Rattle.edge_slices.proofs.copies.read_words.Given as goal
 
@@ -6,5 +6,4 @@ abbrev pub invariant-loop-i : goal.invariant-loop-i
 invariant-loop-i g l = record {
   looks_on : LooksOn l.table l.fn.pass l.pass l.snap;
   copy : TakesOver (g.C.Compose.algebra l.c) l.fn.copy l.copy;
-  contains : ContainsClosed (g.C.Compose.algebra l.c) l.snap l.copy.work;
 }

@@ -1,7 +1,7 @@
 use Rattle.std.proofs.Common.{◌≡◌}
 use Rattle.edge_propagation.specs.declared.sweeping.Sweep.TheVariants as sweep
-use Rattle.closure_seq.specs.Copies.{IsSweptCopy}
-use Rattle.edge_slices.specs.Slices.{LooksOn, IsCopyFor}
+use Rattle.closure_seq.specs.Copies.{IsOpenCopy, IsSweptCopy}
+use Rattle.edge_slices.specs.Slices.{LooksOn}
 use Rattle.edge_slices.proofs.copies.sweep_rows.Given as goal
 
 abbrev pub invariant-loop-i : goal.invariant-loop-i
@@ -9,7 +9,7 @@ invariant-loop-i g l =
     let m = g.C.Compose.algebra l.c in
     record {
       looks_on : LooksOn l.table l.fn.pass l.pass l.snap;
-      copy : IsCopyFor m l.table.opening.nodes l.snap l.copy;
+      is_open : IsOpenCopy m l.copy;
       swept : l.sweep ≡ sweep.Whole → IsSweptCopy m l.copy l.i;
       slice : l.copy.slice ≡ l.fn.copy.slice;
       first : l.copy.rows.first ≡ l.first;

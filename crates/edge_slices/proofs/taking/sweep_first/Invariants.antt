@@ -5,6 +5,6 @@ use Rattle.edge_slices.proofs.taking.sweep_first.Given as goal
 abbrev pub invariant-loop-turn : goal.invariant-loop-turn
 invariant-loop-turn g l = record {
   looks_on : LooksOn l.table l.fn.pass l.pass l.snap;
-  copy : IsCopyFor (g.C.Compose.algebra l.c) l.table.opening.nodes l.snap l.copy;
+  copy : IsCopyFor (g.C.Compose.algebra l.c) l.table.opening.nodes l.copy;
   last : l.copy.rows.end ≡ l.end;
 }

@@ -2,8 +2,6 @@ use Rattle.std.proofs.Common.{ℕ, sym, subst}
 use Rattle.edge_propagation.specs.Worklist.{IsBegun}
 use Rattle.closure_seq.specs.Copies.{CopyState, IsCopyOf}
 use Rattle.closure_seq.proofs.Copies.{IsSettledCopy-begun}
-use Rattle.closure_seq.specs.Copies.{ContainsClosed}
-use Rattle.closure_seq.proofs.Contained.{LosesNoClosed-queue}
 use Rattle.closure_seq.proofs.copy.SliceCopy.begin.Goals as goal
 
 pub returns-clause-settled : goal.returns-clause-settled
@@ -14,9 +12,3 @@ returns-clause-settled g c =
     let work = c.push_lesser.new.self in
     IsSettledCopy-begun m c.args.words.now copy work (subst (IsCopyOf m c.args.words.now) (sym c.self.view_is) c.take_over.ensures.copy) c.push_lesser.ensures.rest
     (subst (λ (full : ℕ). IsBegun work full work.nodes) c.full.ensures c.push_lesser.ensures.begun)
-
-pub returns-clause-contains : goal.returns-clause-contains
-returns-clause-contains g c =
-    let m = g.C.Compose.algebra c.args.c.now in
-    LosesNoClosed-queue m c.self.inside.pairs c.push_lesser.new.self c.push_lesser.ensures.rest c.args.words.now
-    (subst (λ (y : CopyState). ContainsClosed m c.args.words.now y.work) (sym c.self.view_is) c.take_over.ensures.contains)

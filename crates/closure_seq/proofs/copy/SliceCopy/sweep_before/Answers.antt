@@ -1,8 +1,6 @@
 use Rattle.std.proofs.Common.{◌-◌, ◌<◌, sym, refl, subst}
 use Rattle.closure_seq.specs.Copies.{CopyState, IsSettledCopy}
 use Rattle.closure_seq.proofs.TakenRows.{IsSettledCopy-before}
-use Rattle.closure_seq.specs.Copies.{LosesNoClosed}
-use Rattle.closure_seq.proofs.Contained.{LosesNoClosed-step}
 use Rattle.closure_seq.proofs.copy.SliceCopy.sweep_before.Goals as goal
 
 pub returns-clause-settled : goal.returns-clause-settled
@@ -17,11 +15,3 @@ returns-clause-settled g c = λ going.
     (sym w.step.nodes)
     (IsSettledCopy-before m copy work bases w.step w.tables (subst (λ (y : CopyState). 0 < y.rows.first) (sym c.self.view_is) c.requires.some) (w.settled going refl)
     (subst (IsSettledCopy m) (sym c.self.view_is) c.requires.settled))
-
-pub returns-clause-kept : goal.returns-clause-kept
-returns-clause-kept g c =
-    let m = g.C.Compose.algebra c.args.c.now in
-    let own = c.self.inside in
-    let work = c.sweep_planes.new.pairs in
-    let w = c.sweep_planes.ensures.step in
-    subst (λ (y : CopyState). LosesNoClosed m y.work work) c.self.view_is (LosesNoClosed-step m own.pairs work w.nodes w.kept)

@@ -1,8 +1,6 @@
 use Rattle.std.proofs.Common.{◌+◌, sym, subst}
 use Rattle.closure_seq.specs.Copies.{CopyState, IsSweptCopy}
 use Rattle.closure_seq.proofs.Copies.{IsSweptCopy-row}
-use Rattle.closure_seq.specs.Copies.{LosesNoClosed}
-use Rattle.closure_seq.proofs.Contained.{LosesNoClosed-step}
 use Rattle.closure_seq.proofs.copy.SliceCopy.sweep_row.Goals as goal
 
 pub returns-clause-swept : goal.returns-clause-swept
@@ -17,11 +15,3 @@ returns-clause-swept g c = λ going whole before.
     (sym w.step.nodes)
     (IsSweptCopy-row m copy work bases c.args.i w.step w.tables (w.settled going whole)
     (subst (λ (y : CopyState). IsSweptCopy m y c.args.i) (sym c.self.view_is) before))
-
-pub returns-clause-kept : goal.returns-clause-kept
-returns-clause-kept g c =
-    let m = g.C.Compose.algebra c.args.c.now in
-    let own = c.self.inside in
-    let work = c.sweep_planes.new.pairs in
-    let w = c.sweep_planes.ensures.step in
-    subst (λ (y : CopyState). LosesNoClosed m y.work work) c.self.view_is (LosesNoClosed-step m own.pairs work w.nodes w.kept)

@@ -3,7 +3,6 @@ use Rattle.network_words.specs.Network.{IsNetwork}
 use Rattle.edge_propagation.specs.Worklist.{Worklist}
 use Rattle.closure_seq.specs.Copies.{CopyState, AreRowsOf}
 use Rattle.edge_propagation.proofs.Loads.{AreConverses-in_step}
-use Rattle.closure_seq.proofs.Contained.{ContainsClosed-in_step}
 use Rattle.closure_seq.proofs.copy.SliceCopy.take_over.Goals as goal
 
 pub returns-clause-is_open : goal.returns-clause-is_open
@@ -26,6 +25,3 @@ returns-clause-is_open g c =
       nodes = refl;
       rows = subst (λ x. AreRowsOf x c.args.from c.args.to c.rows_of-self-inside.result) (c.nodes.ensures.value ∙ sym (w.in_step.nodes ∙ same)) c.rows_of-self-inside.ensures;
     }
-
-pub returns-clause-contains : goal.returns-clause-contains
-returns-clause-contains g c = ContainsClosed-in_step (g.C.Compose.algebra c.args.c.now) _ c.args.words.now c.load_planes.new.work c.load_planes.ensures.in_step
