@@ -14,7 +14,15 @@ from timing import PROGRAM, TOP, timed
 BASES = ["DC", "EC", "PO", "TPP", "NTPP", "TPPi", "NTPPi", "EQ"]
 
 
-def random_network(nodes, degree, seed):
+def set_with(rng, bases, relation, most, half):
+    """A random set of base relations with this one: of up to so many more, or with half of them in the mean."""
+    if half:
+        chance = (len(bases) / 2 - 1) / (len(bases) - 1)
+        return {relation} | {base for base in bases if rng.random() < chance}
+    return {relation} | set(rng.sample(bases, rng.randint(0, most)))
+
+
+def random_network(nodes, degree, seed, half=False):
     """About `degree` facts at each node, each a random set with the relation that random discs of that scale have."""
     rng = random.Random(seed)
     discs = [(rng.uniform(0, 100), rng.uniform(0, 100), rng.choice([4, 9, 20])) for _ in range(nodes)]
@@ -34,7 +42,7 @@ def random_network(nodes, degree, seed):
     facts = rng.sample(pairs, min(wanted, len(pairs)))
     lines = [f"nodes {nodes}"]
     for i, j in facts:
-        chosen = {relation(discs[i], discs[j])} | set(rng.sample(BASES, rng.randint(0, 3)))
+        chosen = set_with(rng, BASES, relation(discs[i], discs[j]), 3, half)
         lines.append(f"{i} {j} ( " + " ".join(b for b in BASES if b in chosen) + " )")
     return "\n".join(lines + ["."]) + "\n"
 

@@ -16,7 +16,7 @@ first. That takes a minute or two a network; only those whose edges are shared o
 """
 import glob, os, random, re, statistics, subprocess, sys, tempfile
 
-from closure import chain, random_network
+from closure import chain, random_network, set_with
 from timing import TOP, build_program
 
 INTERVALS = "b bi m mi o oi s si d di f fi eq".split()
@@ -137,7 +137,7 @@ fn main(rt: HostRuntime) -> io::Result<()> {
 """
 
 
-def interval_network(nodes, degree, seed):
+def interval_network(nodes, degree, seed, half=False):
     """About `degree` facts at each node, each a random set with the relation that random intervals have."""
     rng = random.Random(seed)
     intervals = []
@@ -157,7 +157,7 @@ def interval_network(nodes, degree, seed):
     pairs = [(i, j) for i in range(nodes) for j in range(i + 1, nodes)]
     lines = ["# intervals", f"nodes {nodes}"]
     for i, j in rng.sample(pairs, min(nodes * degree // 2, len(pairs))):
-        chosen = {relation(intervals[i], intervals[j])} | set(rng.sample(INTERVALS, rng.randint(0, 4)))
+        chosen = set_with(rng, INTERVALS, relation(intervals[i], intervals[j]), 4, half)
         lines.append(f"{i} {j} ( " + " ".join(b for b in INTERVALS if b in chosen) + " )")
     return "\n".join(lines + ["."]) + "\n"
 
@@ -199,8 +199,10 @@ def main():
                 ("chain", chain(nodes)),
                 ("regions, degree 12", random_network(nodes, 12, 1)),
                 ("regions, every pair", random_network(nodes, nodes, 1)),
+                ("regions, every pair, half of the relations", random_network(nodes, nodes, 1, half=True)),
                 ("intervals, degree 12", interval_network(nodes, 12, 1)),
                 ("intervals, every pair", interval_network(nodes, nodes, 1)),
+                ("intervals, every pair, half of the relations", interval_network(nodes, nodes, 1, half=True)),
             )
             for kind, text in kinds:
                 if counts:

@@ -15,9 +15,9 @@ ghost use Rattle.closure_workers.specs.Pieces.{IsOpenedWith, IsTaskOf, IsPieceOf
 ghost use Rattle.closure_workers.specs.Pieces.{IsDealt, AreDealt, AreHeld};
 ghost use Rattle.closure_workers.specs.Pieces.{IsBetween, HasSeen};
 
-use calculus_table::{Compose, Memory};
+use calculus_table::{Compose, Memory, Rel};
 use closure_seq::SliceCopy;
-use edge_slices::{Others, close_free_rows, close_slice_with, is_dense};
+use edge_slices::{Others, close_free_rows, close_slice_with};
 use edge_table::{OpenNet, Pass, Snapshot};
 use network_words::{Net, edge_between};
 use qsr_outside::Gate;
@@ -65,6 +65,20 @@ pub fn is_shared(nodes: u32, size: u32) -> bool {
 /// over 64.
 const SHARED_WORK: u64 = 125_000_000;
 
+/// Whether most edges are stated, by every sixteenth of them.
+fn are_stated(words: &[u64], full: Rel) -> bool {
+    let mut stated: u32 = 0;
+    let mut left: u32 = 0;
+    for word in words.iter().step_by(16) {
+        if *word == full.word() {
+            left = left.wrapping_add(1);
+        } else {
+            stated = stated.wrapping_add(1);
+        }
+    }
+    stated > left
+}
+
 /// Whether sets have five eighths of so many base relations, or fewer, in the mean of every sixteenth of them. Larger
 /// ones become less again and again, and workers look along one in vain as long as they don't know of that.
 fn are_small(words: &[u64], size: u32) -> bool {
@@ -84,7 +98,7 @@ pub(crate) fn is_work_shared<C: Compose>(net: &Net, c: &C) -> bool {
     let nodes = u64::from(net.nodes());
     let triples = nodes.saturating_mul(nodes).saturating_mul(nodes);
     triples.saturating_mul(u64::from(c.size())) >= SHARED_WORK
-        && is_dense(net.words(), c.full())
+        && are_stated(net.words(), c.full())
         && are_small(net.words(), c.size())
 }
 

@@ -304,7 +304,7 @@ pub fn close_parallel<R: Threads + Sync, C: Compose + Sync, G: Gate + Sync>(
     ensures memory { OnErr result (net.new ≡ net.old) }
 {
     let count = workers.min(net.edges()).max(1);
-    let shared = is_work_shared(net, c);
+    let shared = count > 1 && is_work_shared(net, c);
     if count == 1 || !shared && gate.is_open() {
         return close_alone(alloc, net, c, gate, count - 1);
     }

@@ -153,7 +153,7 @@ fn read_row<C: Compose>(
 /// Reads the words again that others may have made less, row by row, and takes over into the copy what is less than
 /// the pass had seen. Returns whether some is. The rows between the first and the last one of the slice belong to this
 /// pass alone.
-fn read_words<C: Compose>(
+pub(crate) fn read_words<C: Compose>(
     table: &OpenNet,
     pass: &mut Pass,
     c: &C,
@@ -253,9 +253,9 @@ fn sweep_slice<C: Compose>(
     sweep_rows(table, pass, c, snap, copy, listener, Sweep::Whole)
 }
 
-/// Sweeps the slice again, with what others made less meanwhile, as long as the last sweep made sets less more than
-/// half as often as it has edges: that is done sooner than looking at each of these edges by itself. Returns whether no
-/// set of the copy became empty.
+/// Takes over what others made less while the slice was swept, and sweeps it again as long as the last sweep made sets
+/// less more than half as often as it has edges: that is done sooner than looking at each of these edges by itself.
+/// Returns whether no set of the copy became empty.
 pub(crate) fn sweep_again<C: Compose>(
     table: &OpenNet,
     pass: &mut Pass,
@@ -274,10 +274,10 @@ pub(crate) fn sweep_again<C: Compose>(
     let (from, to) = copy.slice();
     let many = to.saturating_sub(from) / 2;
     for _time in 0..SWEEPS {
+        read_words(table, pass, c, snap, copy, listener);
         if listener.take_count() <= many {
             return true;
         }
-        read_words(table, pass, c, snap, copy, listener);
         if !sweep_rows(table, pass, c, snap, copy, listener, Sweep::Whole) {
             return false;
         }
@@ -402,7 +402,7 @@ pub(crate) fn take_turns<C: Compose>(
 }
 
 /// Whether most of these sets are less than `full`.
-pub fn is_dense(words: &[u64], full: Rel) -> bool {
+fn is_dense(words: &[u64], full: Rel) -> bool {
     let full = full.word();
     let mut lesser: usize = 0;
     for word in words {

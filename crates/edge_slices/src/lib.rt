@@ -12,6 +12,5 @@ mod others;
 mod slices;
 mod taking;
 
-pub use copies::is_dense;
 pub use others::Others;
 pub use slices::{close_free_rows, close_slice, close_slice_with, is_clash};

@@ -14,42 +14,12 @@ ghost use Rattle.closure_seq.specs.Copies.{IsSettledCopy};
 ghost use Rattle.edge_slices.specs.Slices.{IsLooking, LooksOn, IsCopyFor, IsSettledFor, IsHeld};
 ghost use Rattle.edge_slices.specs.Slices.{HasClash, IsSliceClosed};
 
-use crate::copies::{Turn, after_empty, edges_of_row, follow, sweep_again, take_turns};
+use crate::copies::{Turn, after_empty, edges_of_row, follow, read_words, sweep_again, take_turns};
 use crate::free_rows::{Side, block_size};
 use crate::others::Listener;
 use calculus_table::Compose;
 use closure_seq::{SliceCopy, Sweep};
 use edge_table::{OpenNet, Pass, Snapshot};
-
-/// Sweeps rows that nobody asked for yet along the sets of few base relations, and narrows the words as it did after
-/// each row. Returns whether no set of the copy became empty.
-fn sweep_first<C: Compose>(
-    table: &OpenNet,
-    pass: &mut Pass,
-    c: &C,
-    snap: &mut Snapshot,
-    copy: &mut SliceCopy,
-    listener: &mut Listener<'_>,
-) -> bool
-    requires looking { IsLooking table.now pass.old snap.old }
-    requires calculus { C.algebra c.now ≡ algebra_of table.now.opening }
-    requires copy { IsCopyFor (C.algebra c.now) table.now.opening.nodes copy.old }
-    ensures looks_on { LooksOn table.now pass.old pass.new snap.new }
-    ensures copy { IsCopyFor (C.algebra c.now) table.now.opening.nodes copy.new }
-{
-    let (_first, end) = copy.rows();
-    for _turn in 0..table.nodes() {
-        let Some(row) = listener.others.rows.next(end) else {
-            return true;
-        };
-        let going_on = copy.sweep_row(c, row, Sweep::First);
-        follow(table, pass, c, snap, copy, listener);
-        if !going_on {
-            return false;
-        }
-    }
-    true
-}
 
 /// Reads the word of each edge from `i` to a greater node again, and takes over into the copy what is less than the
 /// pass had seen.
@@ -66,6 +36,7 @@ fn take_row<C: Compose>(
     requires below { i < table.now.opening.nodes }
     ensures looks_on { LooksOn table.now pass.old pass.new snap.new }
     ensures copy { IsCopyFor (C.algebra c.now) table.now.opening.nodes copy.new }
+    ensures rows { copy.new.rows ≡ copy.old.rows }
 {
     let (first, end) = edges_of_row(table.nodes(), i);
     let mut from = first;
@@ -89,12 +60,44 @@ fn take_words<C: Compose>(
     requires copy { IsCopyFor (C.algebra c.now) table.now.opening.nodes copy.old }
     ensures looks_on { LooksOn table.now pass.old pass.new snap.new }
     ensures copy { IsCopyFor (C.algebra c.now) table.now.opening.nodes copy.new }
+    ensures rows { copy.new.rows ≡ copy.old.rows }
 {
     for i in 0..table.nodes() {
         if listener.has_news(i, false) {
             take_row(table, pass, c, snap, copy, i);
         }
     }
+}
+
+/// Sweeps rows that nobody asked for yet along the sets of few base relations, each with what others made less before,
+/// and narrows the words as it did after each row. Returns whether no set of the copy became empty.
+fn sweep_first<C: Compose>(
+    table: &OpenNet,
+    pass: &mut Pass,
+    c: &C,
+    snap: &mut Snapshot,
+    copy: &mut SliceCopy,
+    listener: &mut Listener<'_>,
+) -> bool
+    requires looking { IsLooking table.now pass.old snap.old }
+    requires calculus { C.algebra c.now ≡ algebra_of table.now.opening }
+    requires copy { IsCopyFor (C.algebra c.now) table.now.opening.nodes copy.old }
+    ensures looks_on { LooksOn table.now pass.old pass.new snap.new }
+    ensures copy { IsCopyFor (C.algebra c.now) table.now.opening.nodes copy.new }
+{
+    let (_first, end) = copy.rows();
+    for _turn in 0..table.nodes() {
+        let Some(row) = listener.others.rows.next(end) else {
+            return true;
+        };
+        take_words(table, pass, c, snap, copy, listener);
+        let going_on = copy.sweep_row(c, row, Sweep::First);
+        follow(table, pass, c, snap, copy, listener);
+        if !going_on {
+            return false;
+        }
+    }
+    true
 }
 
 /// Sweeps the row on a side of the copy's rows, which it then belongs to, and narrows the words as it did. Returns
@@ -150,8 +153,8 @@ fn sweep_block<C: Compose>(
     true
 }
 
-/// Takes free rows and sweeps them, block after block, as long as there are some beside those of the copy. Returns
-/// whether no set of the copy became empty.
+/// Takes free rows and sweeps them, block after block, each with what others made less before, as long as there are some
+/// beside those of the copy. Returns whether no set of the copy became empty.
 fn sweep_free<C: Compose>(
     table: &OpenNet,
     pass: &mut Pass,
@@ -183,6 +186,7 @@ fn sweep_free<C: Compose>(
         let Some(next) = listener.others.rows.take_beside(first, end, rows) else {
             return true;
         };
+        read_words(table, pass, c, snap, copy, listener);
         side = next;
     }
     true

@@ -1,4 +1,4 @@
-use Rattle.std.proofs.Common.{ap, ◌∙◌, arith}
+use Rattle.std.proofs.Common.{refl, ap, ◌∙◌, arith}
 use Rattle.closure_seq.specs.Copies.{Slice}
 use Rattle.edge_slices.proofs.Looks.{LooksOn-refl, LooksOn-next}
 use Rattle.edge_slices.proofs.taking.take_row.Goals as goal
@@ -7,6 +7,7 @@ pub loop-edge-init : goal.loop-edge-init
 loop-edge-init g c = record {
   looks_on = LooksOn-refl c.requires.looking;
   copy = c.requires.copy;
+  rows = refl;
   order = omega arith;
 }
 
@@ -17,6 +18,7 @@ loop-edge-preserved g c = record {
     is_open = c.meet_unqueued.ensures.is_open;
     nodes = ap (λ (s : Slice). s.nodes) c.meet_unqueued.ensures.slice ∙ c.loop-edge.invariant.copy.nodes;
   };
+  rows = c.meet_unqueued.ensures.rows ∙ c.loop-edge.invariant.rows;
   order = omega (arith, c.loop-edge.invariant.order, c.in-Some.ensures.among.0);
 }
 
