@@ -47,7 +47,7 @@ pub(crate) struct Piece {
 }
 
 /// How often a worker among others reads the words in vain before it ends, even if they have something to look at.
-const TIMES: u32 = 16;
+const TIMES: u32 = 1_000;
 
 /// The least number of nodes whose edges are shared out, times the square of that of base relations.
 const SHARED: u64 = 500_000;

@@ -299,7 +299,7 @@ pub(crate) fn after_empty(nodes: u32, words: &[u64]) -> Turn
 }
 
 /// Reads the words again until some is less than the pass had seen, which the copy takes over, or no other worker has
-/// anything to look at, or so many times. Returns whether some is.
+/// anything to look at, or so many times. Returns whether some is; else this worker has left the others.
 fn read_on<C: Compose>(
     table: &OpenNet,
     pass: &mut Pass,
@@ -319,10 +319,11 @@ fn read_on<C: Compose>(
         if read_words(table, pass, c, snap, copy, listener) {
             return true;
         }
-        if time + 1 == times || listener.others.are_quiet(news) {
+        if time + 1 < times && listener.others.are_quiet(news) {
             return false;
         }
     }
+    listener.others.leave();
     false
 }
 

@@ -7,9 +7,15 @@ use closure_seq::Note;
 use std::array;
 use std::hint::spin_loop;
 use std::sync::atomic::{AtomicU32, Ordering};
+use std::thread::yield_now;
 
-/// How often a worker looks whether others have told of something before it ends.
-const LOOKS: u32 = 20_000;
+/// How often a worker looks whether others have told of something before it ends: for some ten milliseconds, since one
+/// that ends while others still narrow costs a whole round.
+const LOOKS: u32 = 100_000;
+
+/// Of so many looks one lets another thread run on the processor, so that a worker doesn't keep it from one who has
+/// something to look at.
+const YIELDS: u32 = 16;
 
 /// The most rows that there can be.
 const ROWS: usize = 256;
@@ -84,7 +90,7 @@ impl Others {
     /// back. Returns whether none has, as far as it has waited.
     pub(crate) fn are_quiet(&self, news: u32) -> bool {
         self.leave();
-        for _look in 0..LOOKS {
+        for look in 0..LOOKS {
             let are_done = self.are_done();
             if self.news() != news {
                 self.come_back();
@@ -93,7 +99,11 @@ impl Others {
             if are_done {
                 return true;
             }
-            spin_loop();
+            if look % YIELDS == 0 {
+                yield_now();
+            } else {
+                spin_loop();
+            }
         }
         true
     }

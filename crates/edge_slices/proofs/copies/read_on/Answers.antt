@@ -20,8 +20,8 @@ returns-then-read_words-clause-looks_on g c = LooksOn-trans c.loop-time.invarian
 pub returns-then-read_words-clause-copy : goal.returns-then-read_words-clause-copy
 returns-then-read_words-clause-copy g c = TakesOver-trans (g.C.Compose.algebra c.args.c.now) _ _ _ c.loop-time.invariant.copy c.read_words.ensures.copy
 
-pub returns-then-time-times-clause-looks_on : goal.returns-then-time-times-clause-looks_on
-returns-then-time-times-clause-looks_on g c = LooksOn-trans c.loop-time.invariant.looks_on c.read_words.ensures.looks_on
+pub returns-then-are_quiet-clause-looks_on : goal.returns-then-are_quiet-clause-looks_on
+returns-then-are_quiet-clause-looks_on g c = LooksOn-trans c.loop-time.invariant.looks_on c.read_words.ensures.looks_on
 
-pub returns-then-time-times-clause-copy : goal.returns-then-time-times-clause-copy
-returns-then-time-times-clause-copy g c = TakesOver-trans (g.C.Compose.algebra c.args.c.now) _ _ _ c.loop-time.invariant.copy c.read_words.ensures.copy
+pub returns-then-are_quiet-clause-copy : goal.returns-then-are_quiet-clause-copy
+returns-then-are_quiet-clause-copy g c = TakesOver-trans (g.C.Compose.algebra c.args.c.now) _ _ _ c.loop-time.invariant.copy c.read_words.ensures.copy
