@@ -1,6 +1,7 @@
-//! Closure by rounds. In each, the workers narrow the words of one table at once, each in a thread of its own, for
-//! which the thread that starts them waits. They take the edges row by row, as they get to them: a worker that begins
-//! late, as one does whose processor is asleep or in use, gets fewer or none. In later rounds each keeps its rows.
+//! Closure by rounds. In each, the workers narrow the words of one table at once: one on the thread that starts the
+//! others, and each other one in a thread of its own. They take the edges row by row, as they get to them: one that
+//! begins late, as one does whose processor is asleep or in use, gets fewer or none. In later rounds each keeps its
+//! rows.
 //!
 //! Why it is right: no step of a worker loses a closed network, and words only become less. A worker ends where what
 //! it has seen is closed at each edge of its slice; that may be old. But where all workers whose slice has edges have
@@ -35,8 +36,31 @@ use std::alloc::Global;
 use std::thread;
 use std::thread::Threads;
 
-/// Runs all tasks on a table that was opened with these words, at once, each in a thread of its own, the last one first.
-/// This thread only waits, since a thread that began on the processor of another one would have to wait for that.
+/// Runs a task on a table that was opened with these words, on this thread.
+fn run_here<C: Compose, G: Gate>(
+    alloc: Global,
+    table: &OpenNet,
+    words: &[u64],
+    c: &C,
+    gate: &G,
+    others: &Others,
+    task: Task,
+) -> Result<Vec<Piece>, Memory>
+    requires opened { IsOpenedWith (C.algebra c.now) table.now words.now }
+    requires task { IsTaskOf table.now task }
+    ensures ran { IfOk result (λ ran. All (HasRun (C.algebra c.now) table.now) ran.items) }
+    ensures count { IfOk result (λ ran. length ran.items ≡ 1) }
+{
+    let piece = run_task(alloc, table, words, c, gate, others, task)?;
+    let mut ran = Vec::new(alloc);
+    let Ok(()) = ran.push(piece) else {
+        return Err(Memory);
+    };
+    Ok(ran)
+}
+
+/// Runs all tasks on a table that was opened with these words, at once: each but the first in a thread of its own, the
+/// last one first, and then the first on this thread.
 #[cycle(tasks)]
 fn run_tasks<R: Threads + Sync, C: Compose + Sync, G: Gate + Sync>(
     rt: &R,
@@ -56,6 +80,9 @@ fn run_tasks<R: Threads + Sync, C: Compose + Sync, G: Gate + Sync>(
     let Some(last) = tasks.pop() else {
         return Ok(Vec::new(alloc));
     };
+    if tasks.is_empty() {
+        return run_here(alloc, table, words, c, gate, others, last);
+    }
     let work = move || -> Result<Piece, Memory>
         requires { IsSync C.row × IsSync G.row × IsOpenedWith (C.algebra c.now) table.now words.now
             × IsTaskOf table.now last }
