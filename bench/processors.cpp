@@ -2,8 +2,8 @@
 //
 // Usage: processors [N]      (default: 4). Prints the median time of a thread among N, as a multiple of that of a thread alone: 1.00 where each has
 // a processor to itself, and up to 2 where two share the units of one. Then the medians of the same loop shared out among N threads, as a part of the
-// time that one takes: in equal parts, and in 256 pieces, of which each thread takes the next one as it gets free. With N processors to themselves,
-// which are awake, both are 1 / N.
+// time that one takes: in equal parts, and in 256 pieces, of which each thread takes the next one as it gets free. The thread that starts the others is
+// one of the N; the last figure is that of pieces where it starts N and waits. With N processors to themselves, which are awake, all are 1 / N.
 #include <algorithm>
 #include <atomic>
 #include <chrono>
@@ -28,11 +28,12 @@ static double loop(long turns) {
     return microseconds() - begun;
 }
 
-// The time of so many threads that each run the work.
-template <class Work> static double together(int threads, Work work) {
+// The time of so many threads that each run the work: this one and others, or where this one waits others alone.
+template <class Work> static double together(int threads, bool waits, Work work) {
     double begun = microseconds();
     std::vector<std::thread> running;
-    for (int thread = 0; thread < threads; thread++) running.emplace_back([&work, thread] { work(thread); });
+    for (int thread = waits ? 0 : 1; thread < threads; thread++) running.emplace_back([&work, thread] { work(thread); });
+    if (!waits) work(0);
     for (auto& thread : running) thread.join();
     return microseconds() - begun;
 }
@@ -45,17 +46,20 @@ static double median(std::vector<double> values) {
 int main(int count, char** words) {
     const int threads = count > 1 ? std::atoi(words[1]) : 4;
     const long turns = 2'000'000, pieces = 256;
-    std::vector<double> alone, among, equal, free;
+    std::vector<double> alone, among, equal, free, waiting;
     for (int round = 0; round < 41; round++) {
         double one = loop(turns);
         alone.push_back(one);
         std::vector<double> times(threads);
-        together(threads, [&times](int thread) { times[thread] = loop(turns); });
+        together(threads, false, [&times](int thread) { times[thread] = loop(turns); });
         among.insert(among.end(), times.begin(), times.end());
-        equal.push_back(together(threads, [threads](int) { loop(turns / threads); }) / one);
-        std::atomic<long> next{0};
-        free.push_back(together(threads, [&next](int) { while (next++ < pieces) loop(turns / pieces); }) / one);
+        equal.push_back(together(threads, false, [threads](int) { loop(turns / threads); }) / one);
+        for (bool waits : {false, true}) {
+            std::atomic<long> next{0};
+            (waits ? waiting : free).push_back(together(threads, waits, [&next](int) { while (next++ < pieces) loop(turns / pieces); }) / one);
+        }
     }
-    std::printf("%.2f of one alone; shared out among %d a loop takes %.2f of what it takes alone in equal parts, %.2f in pieces as they get free\n",
-                median(among) / median(alone), threads, median(equal), median(free));
+    std::printf("%.2f of one alone; shared out among %d a loop takes %.2f of what it takes alone in equal parts, %.2f in pieces as they get free, %.2f so where "
+                "the thread that starts the others waits\n",
+                median(among) / median(alone), threads, median(equal), median(free), median(waiting));
 }

@@ -11,8 +11,8 @@ thread of a loop without memory runs where four run at once, and what part of it
 g++ -O2): so much can be had of four processors here.
 
 With --count it counts instructions in place of that (valgrind --tool=callgrind), which others' use of the processors doesn't change: the millions of a
-closing on one thread, of each of four workers on average, and of the thread that starts them beside that, and what the last two come to as a part of the
-first. That takes a minute or two a network; only those whose edges are shared out tell something.
+closing on one thread, and of one by four workers together, of which one is the thread that starts the others; what a quarter of that comes to as a part
+of the first. That takes a minute or two a network; only those whose edges are shared out tell something.
 """
 import glob, os, random, re, statistics, subprocess, sys, tempfile
 
@@ -163,16 +163,16 @@ def interval_network(nodes, degree, seed, half=False):
 
 
 def counted(program, text):
-    """The millions of instructions of a closing on one thread, of a worker of four, and of the thread that starts these."""
+    """The millions of instructions of a closing on one thread, of one by four workers, and of those the part of the thread that starts the others."""
     with tempfile.TemporaryDirectory() as folder:
         counts = os.path.join(folder, "counts")
         valgrind = ["valgrind", "--tool=callgrind", "--separate-threads=yes", f"--callgrind-out-file={counts}", program]
         closings = len(subprocess.run(valgrind, input=text, capture_output=True, text=True, check=True).stdout.splitlines())
-        workers = 0
+        others = 0
         for path in glob.glob(f"{counts}-*"):
             if not path.endswith("-01"):
                 with open(path) as file:
-                    workers += sum(int(total) for total in re.findall(r"^totals: (\d+)", file.read(), re.M))
+                    others += sum(int(total) for total in re.findall(r"^totals: (\d+)", file.read(), re.M))
         annotate = ["callgrind_annotate", "--inclusive=yes", f"{counts}-01"]
         lines = subprocess.run(annotate, capture_output=True, text=True, check=True).stdout.replace(",", "")
 
@@ -181,8 +181,8 @@ def counted(program, text):
 
     # each closing is made once on one thread and once by one worker
     one = inclusive("closing::close::") / (2 * closings)
-    rest = inclusive("worker_times::by_workers") / closings - one
-    return one / 1e6, workers / (4 * closings) / 1e6, rest / 1e6
+    starter = inclusive("worker_times::by_workers") / closings - one
+    return one / 1e6, (others / closings + starter) / 1e6, starter / 1e6
 
 
 def main():
@@ -206,9 +206,8 @@ def main():
             )
             for kind, text in kinds:
                 if counts:
-                    one, worker, rest = counted(program, text)
-                    ratio = (worker + rest) / one
-                    print(f"{kind}, {nodes} nodes: one thread {one:.1f} M, each of four workers {worker:.1f}, beside them {rest:.1f} ({ratio:.2f})", flush=True)
+                    one, four, starter = counted(program, text)
+                    print(f"{kind}, {nodes} nodes: one thread {one:.1f} M, four workers {four:.1f}, {starter:.1f} of these the first ({four / 4 / one:.2f})", flush=True)
                     continue
                 out = subprocess.run([program], input=text, capture_output=True, text=True, check=True).stdout
                 rows = [line.split() for line in out.splitlines()]
