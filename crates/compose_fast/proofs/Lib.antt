@@ -1,6 +1,7 @@
 pub mod LaneLemmas
 pub mod Parts
 pub mod Rows
+pub mod SetTables
 pub mod Stores
 pub mod PlaneLemmas
 pub mod ByteUnions

@@ -63,5 +63,8 @@ composition-more m a x h k w =
     ∙ sym (composition-union_r m a _ _ k) ∙ ap (composition m a) (sym (nibbles-more x h))
 
 -- the composition with the empty set is empty
+pub composition-empty_l : (m : Algebra) (b : ℕ) → IsTable m → composition m 0 b ≡ 0
+composition-empty_l m b k = empty-within _ (record { each = λ t h. absurd (not_Has-empty _ (composition-member m 0 b t k h).first_in) })
+
 pub composition-empty_r : (m : Algebra) (a : ℕ) → IsTable m → composition m a 0 ≡ 0
 composition-empty_r m a k = empty-within _ (record { each = λ t h. absurd (not_Has-empty _ (composition-member m a 0 t k h).second_in) })

@@ -4,7 +4,7 @@ use Rattle.std.specs.Prelude.{slice_index}
 use Rattle.std.specs.Simd.Lanes.{put_chunk}
 use Rattle.std.proofs.lemmas.Bool.{cases_lt, cases_eq}
 use Rattle.std.proofs.lemmas.List.{get_or-set_same, get_or-set_other}
-use Rattle.std.proofs.lemmas.Simd.{get_or-put_chunk_below, get_or-put_chunk_at, get_or-put_chunk_above}
+use Rattle.std.proofs.lemmas.Simd.{get_or-put_chunk_below, get_or-put_chunk_at, get_or-put_chunk_above, length-put_chunk}
 use Rattle.compose_fast.specs.Lanes.{HasLanes}
 
 pub stored-here : (xs v : List ℕ) (f : ℕ → ℕ) (i e : ℕ) → HasLanes 16 v f → i + 16 ≤ length xs → i ≤ e → e < i + 16 → slice_index (put_chunk i xs v) e ≡ f (e - i)
@@ -15,6 +15,25 @@ stored-here xs v f i e h fits low high =
 pub stored-elsewhere : (xs v : List ℕ) (f : ℕ → ℕ) (i e : ℕ) → HasLanes 16 v f → (e < i) ⊎ (i + 16 ≤ e) → slice_index (put_chunk i xs v) e ≡ slice_index xs e
 stored-elsewhere xs v f i e h (inl below) = get_or-put_chunk_below i xs v e 0 below
 stored-elsewhere xs v f i e h (inr above) = get_or-put_chunk_above i xs v e 0 (omega (arith, h.long))
+
+-- two vectors stored one after another, from place `at` on
+pub stored-both : (xs v w : List ℕ) (f g h : ℕ → ℕ) (at : ℕ) → HasLanes 16 v f → HasLanes 16 w g → at + 32 ≤ length xs → ((k : ℕ) → k < 16 → f k ≡ h k) → ((k : ℕ) → k < 16 → g k ≡ h (16 + k)) →
+    (d : ℕ) → d < 32 → slice_index (put_chunk (at + 16) (put_chunk at xs v) w) (at + d) ≡ h d
+stored-both xs v w f g h at p q inside first second d l =
+    let long : length (put_chunk at xs v) ≡ length xs = length-put_chunk at xs v in
+    elim (cases_lt d 16) [
+      | inl low ↦
+          (let k : at + d - at ≡ d = omega arith in
+          stored-elsewhere (put_chunk at xs v) w g (at + 16) (at + d) q (inl (omega arith))
+          ∙ stored-here xs v f at (at + d) p (omega arith) (omega arith) (omega arith) ∙ ap f k ∙ first d low)
+      | inr high ↦
+          (let k : at + d - (at + 16) ≡ d - 16 = omega arith in
+          let back : 16 + (d - 16) ≡ d = omega arith in
+          stored-here (put_chunk at xs v) w g (at + 16) (at + d) q (omega (arith, long)) (omega arith) (omega arith) ∙ ap g k ∙ second (d - 16) (omega arith) ∙ ap h back)
+    ]
+
+pub stored-both-before : (xs v w : List ℕ) (f g : ℕ → ℕ) (at e : ℕ) → HasLanes 16 v f → HasLanes 16 w g → e < at → slice_index (put_chunk (at + 16) (put_chunk at xs v) w) e ≡ slice_index xs e
+stored-both-before xs v w f g at e p q l = stored-elsewhere (put_chunk at xs v) w g (at + 16) e q (inl (omega arith)) ∙ stored-elsewhere xs v f at e p (inl l)
 
 -- the places below d of plane p hold f, and all outside them are as before
 pub record IsPlaneBelow (old now : List ℕ) (f : ℕ → ℕ) (p d : ℕ) : Type 0 where

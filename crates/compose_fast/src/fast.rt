@@ -3,14 +3,18 @@
 //! The composition of `a` and `b` is the union, over the members `r` of `a`, of what `r` gives composed with `b`;
 //! that is the union of what it gives with each nibble of `b`, an entry of a table. So a composition costs two
 //! look-ups for each member of `a` and each eight base relations of the calculus, and a converse two look-ups for
-//! each eight. The tables have 16 entries for each nibble: 2 KiB for a base relation.
+//! each eight. The tables have 16 entries for each nibble: 2 KiB for a base relation. Where there are no more than
+//! eight base relations each set has such a table, of a byte an entry, and a composition costs two look-ups.
 
 ghost use Rattle.std.specs.Prelude.{◌≡◌, ℕ, ◌+◌, ◌*◌, ◌/◌, ◌%◌, ◌<◌, ◌≤◌, length, slice_index, IfOk};
 ghost use Rattle.calculus_table.specs.Algebra.{converse_at};
 ghost use Rattle.compose_fast.specs.Nibbles.{row_entry, converse_of_place};
+ghost use Rattle.compose_fast.specs.FastTables.{AreSetTables};
 
 use crate::members::without;
 use crate::nibbles::{composition_at, converse_of_place, place_of};
+use crate::room::copied;
+use crate::tables::Tables;
 use calculus_table::{Calculus, Compose, Memory, Rel, lawful};
 use std::alloc::Global;
 use std::marker::Model;
@@ -26,6 +30,7 @@ pub struct Fast {
     entries: Vec<Rel>,
     rows: Vec<Rel>,
     places: Vec<Rel>,
+    sets: Vec<u8>,
 }
 
 impl Model for Fast {
@@ -45,7 +50,7 @@ impl Model for Fast {
 
     ghost invariant = { λ a. AreFastTables
         (record { size = a.size; identity = a.identity; converses = a.converses.items; table = a.entries.items })
-        a.full a.nibbles a.rows.items a.places.items };
+        a.full a.nibbles a.rows.items a.places.items a.sets.items };
 }
 
 /// The converse of a base relation.
@@ -131,6 +136,18 @@ fn converses_of_places<C: Compose>(alloc: Global, c: &C) -> Result<Vec<Rel>, Mem
     Ok(places)
 }
 
+/// The tables of all sets, where there are no more than eight base relations.
+fn sets_of<C: Compose>(alloc: Global, c: &C) -> Result<Vec<u8>, Memory>
+    ensures { IfOk result (λ sets. AreSetTables (C.algebra c.now) sets.items) }
+{
+    if c.size() > 8 {
+        return Ok(Vec::new(alloc));
+    }
+    let mut tables = Tables::new(alloc)?;
+    tables.fill::<C, 1>(c);
+    copied(alloc, tables.sets())
+}
+
 impl Fast {
     ghost use Rattle.std.specs.Prelude.{◌≡◌, ℕ, ◌+◌, ◌*◌, ◌<◌, IfOk};
     ghost use Rattle.calculus_table.specs.Rel.{IsWithin};
@@ -154,6 +171,7 @@ impl Fast {
         let entries = entries_of(alloc, c)?;
         let rows = rows_of(alloc, c)?;
         let places = converses_of_places(alloc, c)?;
+        let sets = sets_of(alloc, c)?;
         let size = c.size();
         Ok(Fast {
             size,
@@ -164,6 +182,7 @@ impl Fast {
             entries,
             rows,
             places,
+            sets,
         })
     }
 
@@ -183,6 +202,21 @@ impl Fast {
         all
     }
 
+    /// The composition of `a` and `b` by the table of `a`, where there are no more than eight base relations.
+    #[inline(always)]
+    fn compose_by_table(&self, a: Rel, b: Rel) -> Rel
+        requires few { self.now.size ≤ 8 }
+        requires first { IsWithin a (full_of self.now) }
+        requires second { IsWithin b (full_of self.now) }
+        ensures { result ≡ composition self.now a b }
+    {
+        let _ = &self.size;
+        let table = 32 * a.word() as usize;
+        let low = self.sets[table + (b.word() & 15) as usize];
+        let high = self.sets[table + 16 + (b.word() >> 4) as usize];
+        Rel::of(u64::from(low | high))
+    }
+
     /// The union of the compositions of the members of `a` with those of `b`.
     fn compose_sets(&self, a: Rel, b: Rel) -> Rel
         requires first { IsWithin a (full_of self.now) }
@@ -190,7 +224,9 @@ impl Fast {
         ensures value { result ≡ composition self.now a b }
         ensures calculus { IsCalculus self.now }
     {
-        let _ = &self.size;
+        if self.size <= 8 {
+            return self.compose_by_table(a, b);
+        }
         let mut all = Rel::EMPTY;
         let mut left = a;
         while !left.is_empty() {

@@ -71,3 +71,11 @@ pub fn filled<T: Copy + Drop>(alloc: Global, value: T, blocks: usize) -> Result<
     }
     Ok(all)
 }
+
+/// A copy of a list.
+pub(crate) fn copied(alloc: Global, all: &[u8]) -> Result<Vec<u8>, Memory>
+    ensures { IfOk result (λ copy. copy.items ≡ all.now) }
+{
+    let copy = all.to_vec(alloc).map_err(|_| Memory)?;
+    Ok(copy)
+}

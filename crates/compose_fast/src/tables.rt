@@ -8,13 +8,17 @@
 //! For each base relation there is a table of 32 P bytes a plane: for each nibble of a set, its 16 values. The tables
 //! of a set are the unions of those of its members, 2 P vectors a plane. What a set gives composed with 16 others is
 //! then read by 2 P shuffles a plane (Mula 2016 tells the method for counting bits).
+//!
+//! With one plane a table has two vectors, and there are few sets: so those of all sets are made once, and that of a
+//! set is then read in place of being made from those of its members.
 
 ghost use Rattle.std.specs.Prelude.{◌≡◌, ◌≢◌, ℕ, ◌+◌, ◌*◌, ◌<◌, ◌≤◌, ◌↔◌, length, slice_index, bit_and, bit_or};
-ghost use Rattle.calculus_table.specs.Rel.{Has};
+ghost use Rattle.calculus_table.specs.Rel.{Has, IsWithin};
 ghost use Rattle.calculus_table.specs.Calculus.{IsCalculus};
+ghost use Rattle.calculus_table.specs.Composition.{full_of};
 ghost use Rattle.compose_fast.specs.Lanes.{HasLanes};
 ghost use Rattle.compose_fast.specs.Nibbles.{byte, composition_at};
-ghost use Rattle.compose_fast.specs.Planes.{along_at, IsWithinAlong};
+ghost use Rattle.compose_fast.specs.Planes.{IsTableOf, along_at, IsWithinAlong};
 
 use crate::members::without;
 use crate::nibbles::{composition_at, place_of};
@@ -25,7 +29,10 @@ use std::alloc::Global;
 use std::marker::Model;
 use std::simd::prelude::*;
 
-/// The tables of the base relations of a calculus, and those of one set.
+/// Where the tables of all sets within the first eight base relations begin, after those of 64 base relations.
+const SETS: usize = 131_072;
+
+/// The tables of the base relations of a calculus, with those of all sets for one plane, and those of one set.
 #[derive(Debug, Drop)]
 pub struct Tables {
     bases: Vec<u8>,
@@ -40,7 +47,7 @@ impl Model for Tables {
 
     ghost view = { λ a. record { bases = a.bases.items; set = a.set.items } };
 
-    ghost invariant = { λ a. (length a.bases.items ≡ 131072) × (length a.set.items ≡ 2048) };
+    ghost invariant = { λ a. (length a.bases.items ≡ 139264) × (length a.set.items ≡ 2048) };
 }
 
 /// Writes the bytes of a set, byte `p` at `at + 256 p`.
@@ -88,7 +95,7 @@ fn add_plane<const P: usize>(set: &mut [u8], bases: &[u8], r: usize, p: usize)
     requires base { r < 64 }
     requires plane { p < P }
     requires length_is { length set.old ≡ 2048 }
-    requires bases_length { length bases.now ≡ 131072 }
+    requires bases_length { length bases.now ≡ 139264 }
     ensures here { (d : ℕ) → d < 32 * P →
         slice_index set.new (256 * p + d)
         ≡ bit_or (slice_index set.old (256 * p + d)) (slice_index bases.now (2048 * r + 256 * p + d)) }
@@ -108,7 +115,7 @@ fn add_base<const P: usize>(set: &mut [u8], bases: &[u8], r: usize)
     requires few { P ≤ 8 }
     requires base { r < 64 }
     requires length_is { length set.old ≡ 2048 }
-    requires bases_length { length bases.now ≡ 131072 }
+    requires bases_length { length bases.now ≡ 139264 }
     ensures { (p d : ℕ) → p < P → d < 32 * P →
         slice_index set.new (256 * p + d)
         ≡ bit_or (slice_index set.old (256 * p + d)) (slice_index bases.now (2048 * r + 256 * p + d)) }
@@ -116,6 +123,75 @@ fn add_base<const P: usize>(set: &mut [u8], bases: &[u8], r: usize)
     for p in 0..P {
         add_plane::<P>(set, bases, r, p);
     }
+}
+
+/// Clears the table of 32 bytes from place `at` on.
+fn clear_table(bases: &mut [u8], at: usize)
+    requires { at + 32 ≤ length bases.old }
+    ensures length_is { length bases.new ≡ length bases.old }
+    ensures here { (d : ℕ) → d < 32 → slice_index bases.new (at + d) ≡ 0 }
+    ensures before { (e : ℕ) → e < at → slice_index bases.new e ≡ slice_index bases.old e }
+{
+    store(bases, at, u8x16::splat(0));
+    store(bases, at + 16, u8x16::splat(0));
+}
+
+/// Writes the table at `at`: the union of the one before it at `rest` and the one before it at `base`.
+#[inline(always)]
+fn join_tables(bases: &mut [u8], at: usize, rest: usize, base: usize)
+    requires inside { at + 32 ≤ length bases.old }
+    requires first { rest + 32 ≤ at }
+    requires second { base + 32 ≤ at }
+    ensures length_is { length bases.new ≡ length bases.old }
+    ensures here { (d : ℕ) → d < 32 → slice_index bases.new (at + d)
+        ≡ bit_or (slice_index bases.old (rest + d)) (slice_index bases.old (base + d)) }
+    ensures before { (e : ℕ) → e < at → slice_index bases.new e ≡ slice_index bases.old e }
+{
+    let low = either(load(bases, rest), load(bases, base));
+    let high = either(load(bases, rest + 16), load(bases, base + 16));
+    store(bases, at, low);
+    store(bases, at + 16, high);
+}
+
+/// Makes the tables of all sets within the first eight base relations, for one plane: each from that of the set without
+/// its least member.
+fn fill_sets<C: Compose>(bases: &mut [u8], c: &C)
+    requires length_is { length bases.old ≡ 139264 }
+    requires calculus { IsCalculus (C.algebra c.now) }
+    requires bases { (r d : ℕ) → r < (C.algebra c.now).size → d < 32 →
+        slice_index bases.old (2048 * r + d) ≡ byte (composition_at (C.algebra c.now) r d) 0 }
+    ensures length_is { length bases.new ≡ length bases.old }
+    ensures before { (e : ℕ) → e < 131072 → slice_index bases.new e ≡ slice_index bases.old e }
+    ensures sets { (a : ℕ) → a < 256 → IsWithin a (full_of (C.algebra c.now)) →
+        IsTableOf (C.algebra c.now) a bases.new (131072 + 32 * a) }
+{
+    let _calculus = c;
+    clear_table(bases, SETS);
+    for a in 1..256 {
+        let set = Rel::of(a);
+        let r = set.least();
+        let rest = without(set, r);
+        join_tables(
+            bases,
+            SETS + 32 * a as usize,
+            SETS + 32 * rest.word() as usize,
+            2048 * r as usize,
+        );
+    }
+}
+
+/// Copies the table of 32 bytes from place `at` on to the beginning.
+#[inline(always)]
+fn copy_table(set: &mut [u8], bases: &[u8], at: usize)
+    requires inside { at + 32 ≤ length bases.now }
+    requires room { 32 ≤ length set.old }
+    ensures length_is { length set.new ≡ length set.old }
+    ensures here { (d : ℕ) → d < 32 → slice_index set.new d ≡ slice_index bases.now (at + d) }
+{
+    let low = load(bases, at);
+    let high = load(bases, at + 16);
+    store(set, 0, low);
+    store(set, 16, high);
 }
 
 /// Plane `p` of what the tables of a set give for the 16 sets from place `at` on.
@@ -158,7 +234,7 @@ fn open_lanes<const P: usize>(set: &[u8], bytes: &[u8], here: usize, there: usiz
 }
 
 impl Tables {
-    ghost use Rattle.std.specs.Prelude.{◌≡◌, ℕ, ◌+◌, ◌*◌, ◌<◌, ◌≤◌, length};
+    ghost use Rattle.std.specs.Prelude.{◌≡◌, ℕ, ◌+◌, ◌*◌, ◌<◌, ◌≤◌, length, slice_index};
     ghost use Rattle.calculus_table.specs.Rel.{Has, IsWithin};
     ghost use Rattle.calculus_table.specs.Calculus.{IsCalculus};
     ghost use Rattle.calculus_table.specs.Composition.{full_of, composition};
@@ -167,12 +243,12 @@ impl Tables {
 
     /// Room for the tables of a calculus of any size.
     pub fn new(alloc: Global) -> Result<Tables, Memory> {
-        let bases = filled(alloc, 0, 512)?;
+        let bases = filled(alloc, 0, 544)?;
         let set = filled(alloc, 0, 8)?;
         Ok(Tables { bases, set })
     }
 
-    /// Makes the tables of the base relations of `c`.
+    /// Makes the tables of the base relations of `c`, and for one plane those of all sets.
     pub fn fill<C: Compose, const P: usize>(&mut self, c: &C)
         requires few { P ≤ 8 }
         ensures { AreBaseTables (C.algebra c.now) P self.new.bases }
@@ -187,6 +263,18 @@ impl Tables {
                 put_set::<P>(bases, (2048 * r + d) as usize, composition_at(c, r, d));
             }
         }
+        if P == 1 {
+            fill_sets(bases, c);
+        }
+    }
+
+    /// The tables of all sets within the first eight base relations, one after another.
+    pub(crate) fn sets(&self) -> &[u8]
+        ensures length_is { length result.now ≡ 8192 }
+        ensures each { (e : ℕ) → e < 8192 → slice_index result.now e ≡ slice_index self.now.bases (131072 + e) }
+    {
+        let (_bases, sets) = self.bases.split_at(SETS);
+        sets
     }
 
     /// Makes the tables of the set `a`.
@@ -201,6 +289,10 @@ impl Tables {
         lawful(c);
         let bases = self.bases.as_slice();
         let set = self.set.as_mut_slice();
+        if P == 1 && a.word() < 256 {
+            copy_table(set, bases, SETS + 32 * a.word() as usize);
+            return;
+        }
         clear::<P>(set);
         let mut left = a;
         while !left.is_empty() {

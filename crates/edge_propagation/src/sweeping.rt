@@ -19,7 +19,7 @@ use calculus_table::{Compose, Rel};
 use compose_fast::Tables;
 
 /// The most base relations of a set that the first sweep goes along.
-const FEW: u32 = 1;
+const FEW: u32 = 2;
 
 /// Of so many third nodes the first sweep goes along one, where a set takes several planes.
 const EVERY: u32 = 4;

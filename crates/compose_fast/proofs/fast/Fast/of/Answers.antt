@@ -24,4 +24,5 @@ invariant_of-result g c =
       rows_each = λ r d rb db. c.in_ok-rows.ensures.each (256 * r + d) (omega arith) ∙ row_entry-at m r d db;
       converses_length = c.in_ok-places.ensures.length_is;
       converses_each = c.in_ok-places.ensures.each;
+      of_sets = c.in_ok-sets.ensures;
     })
