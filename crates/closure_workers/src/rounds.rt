@@ -130,7 +130,7 @@ fn narrow_at_once<R: Threads + Sync, C: Compose + Sync, G: Gate + Sync>(
 {
     lawful(c);
     let edges = net.edges();
-    let others = Others::who_tell();
+    let others = Others::who_tell(count);
     let (table, pass) = open(alloc, net, c, count + 1)?;
     let (home, tasks) = deal(alloc, &table, pass, edges, count, helds, &others)?;
     let pieces = run_tasks(rt, alloc, &table, net.words(), c, gate, &others, tasks)?;

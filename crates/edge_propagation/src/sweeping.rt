@@ -5,7 +5,8 @@
 //!
 //! What restricts most is looked at first (van Beek and Manchak 1996): a first sweep goes along the sets of few base
 //! relations alone, so that the whole one after it finds little to narrow. Over a calculus of more than eight base
-//! relations it goes along every fourth node alone: looking along one takes longer there, and each narrows more.
+//! relations it goes along the sets of one alone, and along every fourth node: looking along one takes longer there, and
+//! each narrows more.
 
 ghost use Rattle.std.specs.Prelude.{◌≡◌, ℕ, ◌<◌, OnOk};
 ghost use Rattle.network_words.specs.Edge.{IsProperTriple};
@@ -18,8 +19,8 @@ use crate::span::Span;
 use calculus_table::{Compose, Rel};
 use compose_fast::Tables;
 
-/// The most base relations of a set that the first sweep goes along.
-const FEW: u32 = 2;
+/// The most base relations of a set that the first sweep goes along, where a set takes one plane.
+const FEW: u32 = 3;
 
 /// Of so many third nodes the first sweep goes along one, where a set takes several planes.
 const EVERY: u32 = 4;
@@ -27,7 +28,8 @@ const EVERY: u32 = 4;
 /// Along which third nodes a sweep narrows the pairs of a node.
 #[derive(Clone, Copy, Debug, PartialEq, Eq)]
 pub enum Sweep {
-    /// Those to which it has few base relations, and where a set takes several planes every fourth of them at most.
+    /// Those to which it has few base relations, or where a set takes several planes one, and then every fourth of them
+    /// at most.
     First,
     /// All.
     Whole,
@@ -42,7 +44,8 @@ impl Sweep {
         ensures { self ≡ Sweep.Whole → result ≡ true }
     {
         match self {
-            Sweep::First => rel.count() <= FEW && (P == 1 || distance % EVERY == 0),
+            Sweep::First if P == 1 => rel.count() <= FEW,
+            Sweep::First => rel.count() <= 1 && distance % EVERY == 0,
             Sweep::Whole => true,
         }
     }

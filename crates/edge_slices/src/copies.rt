@@ -167,10 +167,15 @@ pub(crate) fn read_words<C: Compose>(
     ensures copy { TakesOver (C.algebra c.now) copy.old copy.new }
 {
     let (first, end) = copy.rows();
+    let hears_all = listener.hears_all();
+    listener.listen();
     let mut less = false;
-    for i in 0..table.nodes() {
-        let is_own = first < i && i + 1 < end;
-        if listener.has_news(i, is_own) {
+    for _turn in 0..table.nodes() {
+        let Some(i) = listener.next_row() else {
+            return less;
+        };
+        let is_own = first < i && i.saturating_add(1) < end;
+        if i < table.nodes() && (hears_all || !is_own) {
             less |= read_row(table, pass, c, snap, copy, i);
         }
     }

@@ -6,7 +6,7 @@ use crate::free_rows::FreeRows;
 use closure_seq::Note;
 use std::array;
 use std::hint::spin_loop;
-use std::sync::atomic::{AtomicU32, Ordering};
+use std::sync::atomic::{AtomicU32, AtomicU64, Ordering};
 use std::thread::yield_now;
 
 /// How often a worker looks whether others have told of something before it ends: for some ten milliseconds, since one
@@ -17,17 +17,96 @@ const LOOKS: u32 = 100_000;
 /// something to look at.
 const YIELDS: u32 = 16;
 
-/// The most rows that there can be.
-const ROWS: usize = 256;
+/// The most workers that tell each other of rows.
+const WORKERS: usize = 64;
+
+/// The words of a set of up to 256 rows, a bit each.
+const WORDS: usize = 4;
+
+/// A set of up to 256 rows.
+#[derive(Clone, Copy, Debug)]
+struct RowSet {
+    words: [u64; WORDS],
+}
+
+impl RowSet {
+    /// No row.
+    fn none() -> RowSet {
+        RowSet { words: [0; WORDS] }
+    }
+
+    /// All rows.
+    fn all() -> RowSet {
+        RowSet {
+            words: [u64::MAX; WORDS],
+        }
+    }
+
+    /// Adds a row.
+    fn add(&mut self, row: u8) {
+        let words = &mut self.words[..];
+        if let Some(word) = words.get_mut(usize::from(row / 64)) {
+            *word |= 1 << row % 64;
+        }
+    }
+
+    /// Takes the least row out.
+    fn take_least(&mut self) -> Option<u32> {
+        let mut first = 0;
+        for word in &mut self.words[..] {
+            if *word != 0 {
+                let place = word.trailing_zeros();
+                *word &= word.wrapping_sub(1);
+                return Some(place.saturating_add(first));
+            }
+            first = 64u32.saturating_add(first);
+        }
+        None
+    }
+}
+
+/// The rows that the others told one worker of, and that it hasn't heard of yet. It fills a line of the cache.
+#[derive(Drop)]
+struct Inbox {
+    words: [AtomicU64; 2 * WORDS],
+}
+
+impl Inbox {
+    /// Nothing is told.
+    fn empty() -> Inbox {
+        Inbox {
+            words: array::from_fn(|_| AtomicU64::new(0)),
+        }
+    }
+
+    /// Adds rows.
+    fn put(&self, rows: &RowSet) {
+        for (word, more) in self.words[..].iter().zip(rows.words[..].iter()) {
+            if *more != 0 {
+                word.fetch_or(*more, Ordering::SeqCst);
+            }
+        }
+    }
+
+    /// Takes all rows out, and adds them to others.
+    fn take(&self, rows: &mut RowSet) {
+        for (word, more) in self.words[..].iter().zip(rows.words[..].iter_mut()) {
+            if word.load(Ordering::SeqCst) != 0 {
+                *more |= word.swap(0, Ordering::SeqCst);
+            }
+        }
+    }
+}
 
 /// The workers on a table that have something to look at, or may have, how often they told of words that they made
-/// less, and in which row, and the rows that none has yet.
+/// less, in which rows, each in its turn as it began to listen, and the rows that none has yet.
 #[derive(Drop)]
 pub struct Others {
     busy: AtomicU32,
     news: AtomicU32,
-    told: [AtomicU32; ROWS],
-    tell_all: bool,
+    listening: AtomicU32,
+    inboxes: [Inbox; WORKERS],
+    told: usize,
     pub(crate) rows: FreeRows,
 }
 
@@ -38,16 +117,17 @@ impl Others {
         Others {
             busy: AtomicU32::new(workers),
             news: AtomicU32::new(0),
-            told: array::from_fn(|_| AtomicU32::new(0)),
-            tell_all: false,
+            listening: AtomicU32::new(0),
+            inboxes: array::from_fn(|_| Inbox::empty()),
+            told: 0,
             rows: FreeRows::all(),
         }
     }
 
-    /// No workers yet, who tell of all words that they make less.
-    pub fn who_tell() -> Others {
+    /// So many workers, 64 at most, none of whom has begun yet, and who tell of all words that they make less.
+    pub fn who_tell(workers: u32) -> Others {
         let mut others = Others::of(0);
-        others.tell_all = true;
+        others.told = workers as usize;
         others
     }
 
@@ -81,6 +161,16 @@ impl Others {
         self.rows.are_some(rows)
     }
 
+    /// The worker of this number tells the others of rows.
+    fn tell(&self, number: usize, rows: &RowSet) {
+        for (other, inbox) in self.inboxes[..].iter().enumerate().take(self.told) {
+            if other != number {
+                inbox.put(rows);
+            }
+        }
+        self.news.fetch_add(1, Ordering::SeqCst);
+    }
+
     /// How often they have told of words that they made less.
     pub(crate) fn news(&self) -> u32 {
         self.news.load(Ordering::SeqCst)
@@ -109,20 +199,23 @@ impl Others {
     }
 }
 
-/// One worker, with what it has heard of the others.
+/// One worker, with the rows that it has heard of and not read yet.
 #[derive(Drop)]
 pub(crate) struct Listener<'a> {
     pub(crate) others: &'a Others,
-    heard: [u32; ROWS],
+    number: usize,
+    heard: RowSet,
     count: u32,
 }
 
 impl<'a> Listener<'a> {
     /// One who has heard of nothing.
     pub(crate) fn new(others: &'a Others) -> Listener<'a> {
+        let number = others.listening.fetch_add(1, Ordering::SeqCst);
         Listener {
             others,
-            heard: [0; ROWS],
+            number: number as usize,
+            heard: RowSet::none(),
             count: 0,
         }
     }
@@ -134,46 +227,35 @@ impl<'a> Listener<'a> {
         count
     }
 
-    /// Tells of a row. That is no news to itself.
-    fn tell_row(&mut self, row: u8) {
-        let told = &self.others.told[..];
-        let heard = &mut self.heard[..];
-        if let Some(told) = told.get(usize::from(row))
-            && let Some(heard) = heard.get_mut(usize::from(row))
-            && told.fetch_add(1, Ordering::SeqCst) == *heard
-        {
-            *heard = heard.wrapping_add(1);
-        }
-    }
-
-    /// Tells of the words that were narrowed along the triples of these notes, row by row.
+    /// Tells the others of the rows whose words were narrowed along the triples of these notes.
     pub(crate) fn tell(&mut self, notes: &[Note]) {
-        let mut last = None;
+        let mut rows = RowSet::none();
         for note in notes {
             self.count = self.count.wrapping_add(1);
-            let row = note.i.min(note.k);
-            if last != Some(row) {
-                self.tell_row(row);
-                last = Some(row);
-            }
+            rows.add(note.i.min(note.k));
         }
-        self.others.news.fetch_add(1, Ordering::SeqCst);
+        self.others.tell(self.number, &rows);
     }
 
-    /// Whether words of this row may have become less since this was asked last. Its own rows nobody else narrows.
-    pub(crate) fn has_news(&mut self, row: u32, is_own: bool) -> bool {
-        let told = &self.others.told[..];
-        let heard = &mut self.heard[..];
-        let is_told = if let Some(told) = told.get(row as usize)
-            && let Some(heard) = heard.get_mut(row as usize)
-        {
-            let count = told.load(Ordering::SeqCst);
-            let is_told = count != *heard;
-            *heard = count;
-            is_told
+    /// Whether the others tell of all words that they make less.
+    pub(crate) fn hears_all(&self) -> bool {
+        self.others.told > 0
+    }
+
+    /// Hears what the others told since this was asked last, or all rows where they don't tell.
+    pub(crate) fn listen(&mut self) {
+        let inboxes = &self.others.inboxes[..];
+        if !self.hears_all() {
+            self.heard = RowSet::all();
+        } else if let Some(inbox) = inboxes.get(self.number) {
+            inbox.take(&mut self.heard);
         } else {
-            true
-        };
-        is_told || !self.others.tell_all && !is_own
+            self.heard = RowSet::all();
+        }
+    }
+
+    /// The least row that it has heard of and not read yet.
+    pub(crate) fn next_row(&mut self) -> Option<u32> {
+        self.heard.take_least()
     }
 }

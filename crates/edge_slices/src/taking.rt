@@ -62,8 +62,12 @@ fn take_words<C: Compose>(
     ensures copy { IsCopyFor (C.algebra c.now) table.now.opening.nodes copy.new }
     ensures rows { copy.new.rows ≡ copy.old.rows }
 {
-    for i in 0..table.nodes() {
-        if listener.has_news(i, false) {
+    listener.listen();
+    for _turn in 0..table.nodes() {
+        let Some(i) = listener.next_row() else {
+            return;
+        };
+        if i < table.nodes() {
             take_row(table, pass, c, snap, copy, i);
         }
     }
@@ -153,8 +157,8 @@ fn sweep_block<C: Compose>(
     true
 }
 
-/// Takes free rows and sweeps them, block after block, each with what others made less before, as long as there are some
-/// beside those of the copy. Returns whether no set of the copy became empty.
+/// Takes free rows and sweeps them, block after block, each with what others made less before, as long as there are
+/// some beside those of the copy. Returns whether no set of the copy became empty.
 fn sweep_free<C: Compose>(
     table: &OpenNet,
     pass: &mut Pass,
