@@ -9,11 +9,11 @@ use Rattle.network_words.proofs.Edges.{edge_at-order}
 use Rattle.network_words.proofs.Pairs.{pair-first, pair-second, pair-outer}
 use Rattle.compose_fast.specs.Planes.{AreBaseTables}
 use Rattle.edge_propagation.specs.Worklist.{Worklist, IsIdle, IsBegun}
-use Rattle.edge_propagation.specs.Propagation.{AreConverses, IsInStep, IsRefinement, IsReady, IsStep, IsSettled, IsRowSettled, IsStored}
+use Rattle.edge_propagation.specs.Propagation.{AreConverses, IsInStep, IsRefinement, IsReady, IsStep, IsSettled, AreRowsSettled, IsStored}
 use Rattle.edge_propagation.specs.Propagation.{IsPlanes}
 use Rattle.closure_seq.specs.Copies.{Slice, CopyState, IsCopyOf, IsOpenCopy, IsSettledCopy, IsSweptCopy, AreRowsOf, TakesOver}
 use Rattle.edge_propagation.specs.Propagation.{IsMet}
-use Rattle.edge_propagation.proofs.Settled.{IsSettled-met, IsSettled-none, IsSettled-row, AreRowsClosed-idle}
+use Rattle.edge_propagation.proofs.Settled.{IsSettled-met, IsSettled-none, IsSettled-rows, AreRowsClosed-idle}
 use Rattle.edge_propagation.proofs.Steps.{IsMet-step}
 use Rattle.edge_propagation.proofs.Starts.{IsSettled-begun}
 use Rattle.edge_propagation.proofs.Loads.{IsInStep-queue, IsInStep-stored, AreConverses-in_step}
@@ -158,12 +158,12 @@ IsSweptCopy-none m copy work rest s = record {
   settled = IsSettled-none m copy.rows.first work;
 }
 
--- a row swept
-pub IsSweptCopy-row : (m : Algebra) (copy : CopyState) (work : Worklist) (bases : List ℕ) (i : ℕ) → IsStep m copy.work work → bases ≡ copy.bases → IsRowSettled m work i →
-    IsSweptCopy m copy i → IsSweptCopy m (record copy { work = work; bases = bases }) (i + 1)
-IsSweptCopy-row m copy work bases i p same row s = record {
+-- rows swept
+pub IsSweptCopy-rows : (m : Algebra) (copy : CopyState) (work : Worklist) (bases : List ℕ) (i end : ℕ) → IsStep m copy.work work → bases ≡ copy.bases → AreRowsSettled m work (record { first = i; end = end }) →
+    IsSweptCopy m copy i → IsSweptCopy m (record copy { work = work; bases = bases }) end
+IsSweptCopy-rows m copy work bases i end p same rows s = record {
   is_open = IsOpenCopy-met m copy work bases (IsMet-step m copy.work work p) same s.is_open;
-  settled = IsSettled-row m copy.rows.first i work s.is_open.calculus p.sets (IsSettled-met m (record { first = copy.rows.first; end = i }) copy.work work (IsMet-step m copy.work work p) s.settled) row;
+  settled = IsSettled-rows m copy.rows.first i end work s.is_open.calculus p.sets (IsSettled-met m (record { first = copy.rows.first; end = i }) copy.work work (IsMet-step m copy.work work p) s.settled) rows;
 }
 
 -- sets narrowed

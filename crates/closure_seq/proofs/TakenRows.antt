@@ -1,29 +1,29 @@
 -- Rows that a copy takes one after another, on either side of those that it has, and their edges.
-use Rattle.std.proofs.Common.{◌≡◌, ℕ, ◌+◌, ◌-◌, ◌<◌, ◌≤◌, ◌⊎◌, List, subst, arith, inl, inr}
+use Rattle.std.proofs.Common.{◌≡◌, ℕ, ◌+◌, ◌-◌, ◌<◌, ◌≤◌, ◌⊎◌, List, arith, inl, inr}
 use Rattle.std.proofs.lemmas.Bool.{cases_lt}
 use Rattle.calculus_table.specs.Algebra.{Algebra}
 use Rattle.calculus_table.specs.Calculus.{IsCalculus}
 use Rattle.network_words.specs.Edge.{edge_at, ComesBefore}
 use Rattle.network_words.proofs.Edges.{edge_at-order}
 use Rattle.edge_propagation.specs.Worklist.{Worklist}
-use Rattle.edge_propagation.specs.Propagation.{AreConverses, IsStep, IsSettled, IsRowSettled, IsSettledAt}
+use Rattle.edge_propagation.specs.Propagation.{AreConverses, IsStep, IsSettled, AreRowsSettled, IsSettledAt}
 use Rattle.edge_propagation.specs.declared.span.Span.{Span}
-use Rattle.edge_propagation.proofs.Settled.{IsSettled-met, IsSettled-none, IsSettled-row}
+use Rattle.edge_propagation.proofs.Settled.{IsSettled-met, IsSettled-none, IsSettled-rows}
 use Rattle.edge_propagation.proofs.Steps.{IsMet-step}
 use Rattle.closure_seq.specs.Copies.{CopyState, IsOpenCopy, IsSettledCopy, AreRowsOf, AreEdgesOf}
 use Rattle.closure_seq.proofs.Copies.{AreRowsOf-edges, IsOpenCopy-met}
 
 -- ---- rows swept
 
--- one more row, before the others: the pairs of i with greater nodes
-IsSettled-before : (m : Algebra) (i end : ℕ) (work : Worklist) → IsCalculus m → AreConverses m work → IsSettled m (record { first = i + 1; end = end }) work → IsRowSettled m work i →
-    IsSettled m (record { first = i; end = end }) work
-IsSettled-before m i end work c s h row = λ x y z t e.
-    let alone = IsSettled-row m i i work c s (IsSettled-none m i work) row in
-    let here : (x < i + 1) ⊎ (z < i + 1) → IsSettledAt m work x y z = λ b. alone x y z t (record { first_from = e.first_from; second_from = e.second_from; lesser_below = b }) in
-    elim (cases_lt x (i + 1)) as (λ _. IsSettledAt m work x y z) [
+-- more rows, before the others: the pairs of their nodes with greater ones
+IsSettled-before : (m : Algebra) (first i end : ℕ) (work : Worklist) → IsCalculus m → AreConverses m work → IsSettled m (record { first = i; end = end }) work → AreRowsSettled m work (record { first = first; end = i }) →
+    IsSettled m (record { first = first; end = end }) work
+IsSettled-before m first i end work c s h rows = λ x y z t e.
+    let alone = IsSettled-rows m first first i work c s (IsSettled-none m first work) rows in
+    let here : (x < i) ⊎ (z < i) → IsSettledAt m work x y z = λ b. alone x y z t (record { first_from = e.first_from; second_from = e.second_from; lesser_below = b }) in
+    elim (cases_lt x i) as (λ _. IsSettledAt m work x y z) [
       | inl xb ↦ here (inl xb)
-      | inr xa ↦ elim (cases_lt z (i + 1)) as (λ _. IsSettledAt m work x y z) [
+      | inr xa ↦ elim (cases_lt z i) as (λ _. IsSettledAt m work x y z) [
         | inl zb ↦ here (inr zb)
         | inr za ↦ h x y z t (record { first_from = xa; second_from = za; lesser_below = e.lesser_below })
       ]
@@ -57,25 +57,21 @@ module _ (m : Algebra) (copy : CopyState) (work : Worklist) (bases : List ℕ) (
         rows = AreRowsOf-more copy.slice.nodes copy.slice.from copy.slice.to copy.rows rows a b below s.rows;
       }
 
-  -- the row after the rows
-  pub IsSettledCopy-after : copy.rows.end < copy.slice.nodes → IsRowSettled m work copy.rows.end → IsSettledCopy m copy →
-      IsSettledCopy m (swept copy work bases (record { first = copy.rows.first; end = copy.rows.end + 1 }))
-  IsSettledCopy-after below row s = record {
-    is_open = IsOpenCopy-more (record { first = copy.rows.first; end = copy.rows.end + 1 }) (omega arith) (omega arith) (omega (arith, below)) s.is_open;
-    settled = IsSettled-row m copy.rows.first copy.rows.end work s.is_open.calculus p.sets (IsSettled-met m copy.rows copy.work work (IsMet-step m copy.work work p) s.settled) row;
+  -- rows after the rows
+  pub IsSettledCopy-after : (count : ℕ) → copy.rows.end + count ≤ copy.slice.nodes → AreRowsSettled m work (record { first = copy.rows.end; end = copy.rows.end + count }) → IsSettledCopy m copy →
+      IsSettledCopy m (swept copy work bases (record { first = copy.rows.first; end = copy.rows.end + count }))
+  IsSettledCopy-after count below rows s = record {
+    is_open = IsOpenCopy-more (record { first = copy.rows.first; end = copy.rows.end + count }) (omega arith) (omega arith) below s.is_open;
+    settled = IsSettled-rows m copy.rows.first copy.rows.end (copy.rows.end + count) work s.is_open.calculus p.sets (IsSettled-met m copy.rows copy.work work (IsMet-step m copy.work work p) s.settled) rows;
   }
 
-  -- the row before the rows
-  pub IsSettledCopy-before : 0 < copy.rows.first → IsRowSettled m work (copy.rows.first - 1) → IsSettledCopy m copy →
-      IsSettledCopy m (swept copy work bases (record { first = copy.rows.first - 1; end = copy.rows.end }))
-  IsSettledCopy-before some row s =
-      let after : copy.rows.first ≡ copy.rows.first - 1 + 1 = omega (arith, some) in
-      let met = IsSettled-met m copy.rows copy.work work (IsMet-step m copy.work work p) s.settled in
-      record {
-        is_open = IsOpenCopy-more (record { first = copy.rows.first - 1; end = copy.rows.end }) (omega arith) (omega arith) s.is_open.rows.below s.is_open;
-        settled = IsSettled-before m (copy.rows.first - 1) copy.rows.end work s.is_open.calculus p.sets
-            (subst (λ x. IsSettled m (record { first = x; end = copy.rows.end }) work) after met) row;
-      }
+  -- rows before the rows
+  pub IsSettledCopy-before : (first : ℕ) → first ≤ copy.rows.first → AreRowsSettled m work (record { first = first; end = copy.rows.first }) → IsSettledCopy m copy →
+      IsSettledCopy m (swept copy work bases (record { first = first; end = copy.rows.end }))
+  IsSettledCopy-before first some rows s = record {
+    is_open = IsOpenCopy-more (record { first = first; end = copy.rows.end }) some (omega arith) s.is_open.rows.below s.is_open;
+    settled = IsSettled-before m first copy.rows.first copy.rows.end work s.is_open.calculus p.sets (IsSettled-met m copy.rows copy.work work (IsMet-step m copy.work work p) s.settled) rows;
+  }
 
 -- ---- the edges of rows
 

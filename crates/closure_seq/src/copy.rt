@@ -14,7 +14,7 @@ ghost use Rattle.network_words.specs.Edge.{edge_count, IsProperPair};
 ghost use Rattle.network_words.specs.declared.TheConstants.{MAX_NODES};
 ghost use Rattle.compose_fast.specs.Planes.{AreBaseTables};
 ghost use Rattle.edge_propagation.specs.Propagation.{AreConverses, IsReady, IsRefinement, IsStep};
-ghost use Rattle.edge_propagation.specs.Propagation.{IsSettled, IsRowSettled};
+ghost use Rattle.edge_propagation.specs.Propagation.{IsSettled, AreRowsSettled};
 ghost use Rattle.edge_propagation.specs.Propagation.{IsPlanes, IsMet, IsPairMet, AreRowsMet};
 
 use crate::rows::{edges_of, rows_of};
@@ -22,7 +22,7 @@ use calculus_table::{Compose, Memory, Rel, lawful};
 use compose_fast::Tables;
 use edge_propagation::{
     Note, PairSets, Proposals, Span, Sweep, is_stored, load_planes, meet, meet_pair,
-    meet_pair_unqueued, propagate_noted, sweep_row,
+    meet_pair_unqueued, propagate_noted, sweep_rows,
 };
 use std::alloc::Global;
 use std::marker::Model;
@@ -119,31 +119,32 @@ fn propagate_planes<C: Compose>(
     }
 }
 
-/// Sweeps the row of `i`, for the number of planes that the sets are kept in. Returns whether no set became empty.
+/// Sweeps the rows of a range of nodes, for the number of planes that the sets are kept in. Returns whether no set became
+/// empty.
 fn sweep_planes<C: Compose>(
     pairs: &mut PairSets,
     tables: &mut Tables,
     c: &C,
-    i: u32,
+    rows: Span,
     sweep: Sweep,
 ) -> bool
     requires planes { IsPlanes pairs.old.planes }
     requires ready { IsReady (C.algebra c.now) pairs.old.planes pairs.old }
-    requires below { i < pairs.old.nodes }
+    requires below { rows.end ≤ pairs.old.nodes }
     requires tables { AreBaseTables (C.algebra c.now) pairs.old.planes tables.old.bases }
     ensures step { IsStep (C.algebra c.now) pairs.old pairs.new }
-    ensures settled { IsTrue result → sweep ≡ Sweep.Whole → IsRowSettled (C.algebra c.now) pairs.new i }
+    ensures settled { IsTrue result → sweep ≡ Sweep.Whole → AreRowsSettled (C.algebra c.now) pairs.new rows }
     ensures tables { tables.new.bases ≡ tables.old.bases }
 {
     let planes = pairs.planes();
     if planes == 1 {
-        sweep_row::<C, 1>(pairs, tables, c, i, sweep).is_ok()
+        sweep_rows::<C, 1>(pairs, tables, c, rows, sweep).is_ok()
     } else if planes == 2 {
-        sweep_row::<C, 2>(pairs, tables, c, i, sweep).is_ok()
+        sweep_rows::<C, 2>(pairs, tables, c, rows, sweep).is_ok()
     } else if planes == 4 {
-        sweep_row::<C, 4>(pairs, tables, c, i, sweep).is_ok()
+        sweep_rows::<C, 4>(pairs, tables, c, rows, sweep).is_ok()
     } else {
-        sweep_row::<C, 8>(pairs, tables, c, i, sweep).is_ok()
+        sweep_rows::<C, 8>(pairs, tables, c, rows, sweep).is_ok()
     }
 }
 
@@ -286,18 +287,20 @@ impl SliceCopy {
         self.pairs.clear();
     }
 
-    /// Narrows the pairs of `i` with greater nodes along the third nodes of a sweep. Returns whether no set became
-    /// empty. Each edge whose set becomes smaller is queued.
-    pub fn sweep_row<C: Compose>(&mut self, c: &C, i: u32, sweep: Sweep) -> bool
+    /// Narrows the pairs of each node from `first` up to but without `end` with greater nodes along the third nodes of a
+    /// sweep. Returns whether no set became empty. Each edge whose set becomes smaller is queued.
+    pub fn sweep_rows<C: Compose>(&mut self, c: &C, first: u32, end: u32, sweep: Sweep) -> bool
         requires is_open { IsOpenCopy (C.algebra c.now) self.old }
-        requires below { i < self.old.rows.end }
+        requires order { first ≤ end }
+        requires below { end ≤ self.old.rows.end }
         ensures is_open { IsOpenCopy (C.algebra c.now) self.new }
-        ensures swept { IsTrue result → sweep ≡ Sweep.Whole → IsSweptCopy (C.algebra c.now) self.old i →
-            IsSweptCopy (C.algebra c.now) self.new (i + 1) }
+        ensures swept { IsTrue result → sweep ≡ Sweep.Whole → IsSweptCopy (C.algebra c.now) self.old first →
+            IsSweptCopy (C.algebra c.now) self.new end }
         ensures slice { self.new.slice ≡ self.old.slice }
         ensures rows { self.new.rows ≡ self.old.rows }
     {
-        sweep_planes(&mut self.pairs, &mut self.tables, c, i, sweep)
+        let rows = Span { first, end };
+        sweep_planes(&mut self.pairs, &mut self.tables, c, rows, sweep)
     }
 
     /// Takes the empty slice of no rows, at row `i`, and takes every edge off the queue, so that the rows on either
@@ -314,37 +317,41 @@ impl SliceCopy {
         self.pairs.clear();
     }
 
-    /// Sweeps the row after the rows along all third nodes, and takes it to the rows. Returns whether no set became
-    /// empty. Each edge whose set becomes smaller is queued.
-    pub fn sweep_after<C: Compose>(&mut self, c: &C) -> bool
+    /// Sweeps so many rows after the rows along all third nodes, and takes them to the rows. Returns whether no set
+    /// became empty. Each edge whose set becomes smaller is queued.
+    pub fn sweep_after<C: Compose>(&mut self, c: &C, count: u32) -> bool
         requires settled { IsSettledCopy (C.algebra c.now) self.old }
-        requires below { self.old.rows.end < self.old.slice.nodes }
+        requires below { self.old.rows.end + count ≤ self.old.slice.nodes }
         ensures is_open { IsOpenCopy (C.algebra c.now) self.new }
         ensures settled { IsTrue result → IsSettledCopy (C.algebra c.now) self.new }
         ensures slice { self.new.slice ≡ self.old.slice }
         ensures rows { self.new.rows ≡
-            record { first = self.old.rows.first; end = self.old.rows.end + 1 } }
+            record { first = self.old.rows.first; end = self.old.rows.end + count } }
     {
         let _nodes = self.pairs.nodes();
-        let i = self.rows.end;
-        self.rows.end = i + 1;
-        sweep_planes(&mut self.pairs, &mut self.tables, c, i, Sweep::Whole)
+        let first = self.rows.end;
+        let end = first + count;
+        self.rows.end = end;
+        let rows = Span { first, end };
+        sweep_planes(&mut self.pairs, &mut self.tables, c, rows, Sweep::Whole)
     }
 
-    /// Sweeps the row before the rows along all third nodes, and takes it to the rows. Returns whether no set became
-    /// empty. Each edge whose set becomes smaller is queued.
-    pub fn sweep_before<C: Compose>(&mut self, c: &C) -> bool
+    /// Sweeps so many rows before the rows along all third nodes, and takes them to the rows. Returns whether no set
+    /// became empty. Each edge whose set becomes smaller is queued.
+    pub fn sweep_before<C: Compose>(&mut self, c: &C, count: u32) -> bool
         requires settled { IsSettledCopy (C.algebra c.now) self.old }
-        requires some { 0 < self.old.rows.first }
+        requires some { count ≤ self.old.rows.first }
         ensures is_open { IsOpenCopy (C.algebra c.now) self.new }
         ensures settled { IsTrue result → IsSettledCopy (C.algebra c.now) self.new }
         ensures slice { self.new.slice ≡ self.old.slice }
         ensures rows { self.new.rows ≡
-            record { first = self.old.rows.first - 1; end = self.old.rows.end } }
+            record { first = self.old.rows.first - count; end = self.old.rows.end } }
     {
-        let i = self.rows.first - 1;
-        self.rows.first = i;
-        sweep_planes(&mut self.pairs, &mut self.tables, c, i, Sweep::Whole)
+        let end = self.rows.first;
+        let first = end - count;
+        self.rows.first = first;
+        let rows = Span { first, end };
+        sweep_planes(&mut self.pairs, &mut self.tables, c, rows, Sweep::Whole)
     }
 
     /// Takes the slice of all edges of the rows. Returns the number of the first one, and the one after that of the

@@ -23,4 +23,4 @@ pub use fast::Fast;
 pub use kernels::{first_difference, first_zero, or_rows};
 pub use members::without;
 pub use room::{clear_to, filled, with_room};
-pub use tables::{Tables, put_set};
+pub use tables::{SetTable, Tables, put_set};

@@ -233,6 +233,45 @@ fn open_lanes<const P: usize>(set: &[u8], bytes: &[u8], here: usize, there: usiz
     gaps
 }
 
+/// The tables of one set in one plane, to be held in two registers: what it gives composed with each lower nibble of a
+/// set, and with each upper one.
+#[derive(Drop)]
+pub struct SetTable {
+    low: u8x16,
+    high: u8x16,
+}
+
+impl Model for SetTable {
+    ghost use Rattle.std.specs.Prelude.{◌≡◌, ℕ, ◌++◌, List, length};
+
+    ghost Value = { List ℕ };
+
+    ghost view = { λ a. a.low ++ a.high };
+
+    ghost invariant = { λ a. (length a.low ≡ 16) × (length a.high ≡ 16) };
+}
+
+impl SetTable {
+    ghost use Rattle.std.specs.Prelude.{◌≡◌, ℕ, ◌+◌, ◌<◌, ◌≤◌, length};
+    ghost use Rattle.calculus_table.specs.Rel.{Has};
+    ghost use Rattle.compose_fast.specs.Planes.{IsWithinAlong};
+
+    /// A bit for each of the 16 sets from place `here` on that isn't within the composition of the table's set with the
+    /// one as far from `there` on.
+    #[inline(always)]
+    pub fn open_lanes(&self, bytes: &[u8], here: usize, there: usize) -> u64
+        requires inside { here + 16 ≤ length bytes.now }
+        requires inside_too { there + 16 ≤ length bytes.now }
+        ensures clear { (k : ℕ) → k < 16 → ¬ Has result k → IsWithinAlong self.now bytes.now 1 (here + k) (there + k) }
+        ensures gap { (k : ℕ) → k < 16 → Has result k → ¬ IsWithinAlong self.now bytes.now 1 (here + k) (there + k) }
+        ensures below { (k : ℕ) → Has result k → k < 16 }
+    {
+        let v = load(bytes, here);
+        let composed = along(self.low, self.high, load(bytes, there));
+        differing(both(v, composed), v)
+    }
+}
+
 impl Tables {
     ghost use Rattle.std.specs.Prelude.{◌≡◌, ℕ, ◌+◌, ◌*◌, ◌<◌, ◌≤◌, length, slice_index};
     ghost use Rattle.calculus_table.specs.Rel.{Has, IsWithin};
@@ -275,6 +314,22 @@ impl Tables {
     {
         let (_bases, sets) = self.bases.split_at(SETS);
         sets
+    }
+
+    /// The tables of the set `a` in one plane.
+    #[inline(always)]
+    pub fn table_of<C: Compose>(&self, c: &C, a: Rel) -> SetTable
+        requires enough { (C.algebra c.now).size ≤ 8 }
+        requires within { IsWithin a (full_of (C.algebra c.now)) }
+        requires bases { AreBaseTables (C.algebra c.now) 1 self.now.bases }
+        ensures { AreTablesOf (C.algebra c.now) 1 a result }
+    {
+        let _calculus = c;
+        let at = SETS + 32 * a.word() as usize;
+        SetTable {
+            low: load(&self.bases, at),
+            high: load(&self.bases, at + 16),
+        }
     }
 
     /// Makes the tables of the set `a`.

@@ -1,5 +1,5 @@
 -- Each triple that isn't closed has a source edge that is queued.
-use Rattle.std.proofs.Common.{◌≡◌, ◌≢◌, ℕ, ◌+◌, ◌<◌, ◌⊎◌, Bool, false, List, length, sym, ◌∙◌, subst, arith, inl, inr}
+use Rattle.std.proofs.Common.{◌≡◌, ◌≢◌, ℕ, ◌<◌, ◌⊎◌, Bool, false, List, length, sym, ◌∙◌, subst, arith, inl, inr}
 use Rattle.std.specs.Prelude.{bit_and, slice_set}
 use Rattle.std.proofs.lemmas.Bool.{cases_lt}
 use Rattle.calculus_table.specs.Rel.{IsWithin}
@@ -12,7 +12,7 @@ use Rattle.network_words.specs.Edge.{IsProperPair, IsProperTriple, IsSamePair}
 use Rattle.network_words.proofs.Pairs.{pair-first, pair-second, pair-outer, triple-swap}
 use Rattle.edge_propagation.specs.Worklist.{Worklist, IsSized, IsQueued, IsIdle, edge_place, set_of, work_left}
 use Rattle.edge_propagation.specs.declared.span.Span.{Span}
-use Rattle.edge_propagation.specs.Propagation.{AreConverses, IsReady, IsStep, HasEmpty, IsClosedAlong, AreClosed, AreRowsClosed, IsSettledAt, IsSettled, IsRowSettled, IsSettledBut, IsCharged, all_nodes}
+use Rattle.edge_propagation.specs.Propagation.{AreConverses, IsReady, IsStep, HasEmpty, IsClosedAlong, AreClosed, AreRowsClosed, IsSettledAt, IsSettled, AreRowsSettled, IsSettledBut, IsCharged, all_nodes}
 use Rattle.edge_propagation.proofs.Places.{edge_place-inside, same-cases, mark-kept, count-cleared, IsQueued-swap, pair-from_place}
 use Rattle.edge_propagation.specs.Propagation.{IsMet}
 use Rattle.edge_propagation.proofs.Steps.{refined, IsMet-step, IsStep-refined, refined-first, refined-other}
@@ -97,16 +97,16 @@ IsSettled-met m rows old new p h = λ i j k t' e.
     let t : IsProperTriple old.nodes i j k = subst (λ n. IsProperTriple n i j k) p.nodes t' in
     IsSettledAt-met m old new i j k p t (h i j k t e)
 
--- no row, and one more row: the pairs of i with greater nodes
+-- no row, and more rows: the pairs of their nodes with greater ones
 pub IsSettled-none : (m : Algebra) (first : ℕ) (work : Worklist) → IsSettled m (record { first = first; end = first }) work
 IsSettled-none m first work = λ i j k t e.
     let a = e.first_from in
     let b = e.second_from in
     elim e.lesser_below as (λ _. IsSettledAt m work i j k) [ inl l ↦ absurd (omega arith) | inr l ↦ absurd (omega arith) ]
 
-pub IsSettled-row : (m : Algebra) (first i : ℕ) (work : Worklist) → IsCalculus m → AreConverses m work → IsSettled m (record { first = first; end = i }) work → IsRowSettled m work i →
-    IsSettled m (record { first = first; end = i + 1 }) work
-IsSettled-row m first i work c s h row = λ x y z t e.
+pub IsSettled-rows : (m : Algebra) (first i end : ℕ) (work : Worklist) → IsCalculus m → AreConverses m work → IsSettled m (record { first = first; end = i }) work → AreRowsSettled m work (record { first = i; end = end }) →
+    IsSettled m (record { first = first; end = end }) work
+IsSettled-rows m first i end work c s h rows = λ x y z t e.
     let charged : (x < i) ⊎ (z < i) → IsCharged (record { first = first; end = i }) x z = λ b. record { first_from = e.first_from; second_from = e.second_from; lesser_below = b } in
     elim (cases_lt x i) as (λ _. IsSettledAt m work x y z) [
       | inl xb ↦ h x y z t (charged (inl xb))
@@ -114,14 +114,14 @@ IsSettled-row m first i work c s h row = λ x y z t e.
         | inl zb ↦ h x y z t (charged (inr zb))
         | inr za ↦ elim (cases_lt x z) as (λ _. IsSettledAt m work x y z) [
           | inl xz ↦
-              (let same : x ≡ i = elim e.lesser_below as (λ _. x ≡ i) [ inl l ↦ omega arith | inr l ↦ omega arith ] in
-              rw same (row y z (rw same at xz) (rw same at t)))
+              (let below : x < end = elim e.lesser_below as (λ _. x < end) [ inl l ↦ l | inr l ↦ omega arith ] in
+              rows x (record { from = xa; below = below }) y z xz t)
           | inr zx ↦
               (let d = t.first_third in
               let less : z < x = omega (arith, d) in
-              let same : z ≡ i = elim e.lesser_below as (λ _. z ≡ i) [ inl l ↦ omega arith | inr l ↦ omega arith ] in
+              let below : z < end = elim e.lesser_below as (λ _. z < end) [ inl l ↦ omega arith | inr l ↦ l ] in
               let turned = triple-swap work.nodes x y z t in
-              rw same (IsSettledAt-swap m work i y x c s (rw same at turned) (row y x (rw same at less) (rw same at turned))))
+              IsSettledAt-swap m work z y x c s turned (rows z (record { from = za; below = below }) y x less turned))
         ]
       ]
     ]

@@ -1,2 +1,3 @@
 pub mod Worklist
 pub mod Propagation
+pub mod Sweeps

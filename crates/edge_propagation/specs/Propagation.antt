@@ -106,6 +106,10 @@ IsSettledAt m work i j k = ¬ IsQueued work i j → ¬ IsQueued work j k → IsC
 abbrev pub IsRowSettled : Algebra → Worklist → ℕ → Type 0
 IsRowSettled m work i = (j k : ℕ) → i < k → IsProperTriple work.nodes i j k → IsSettledAt m work i j k
 
+-- and so is that of each node of a range
+abbrev pub AreRowsSettled : Algebra → Worklist → Span → Type 0
+AreRowsSettled m work rows = (i : ℕ) → IsAmong rows i → IsRowSettled m work i
+
 -- and so is each triple whose outer pair belongs to the rows
 abbrev pub IsSettled : Algebra → Span → Worklist → Type 0
 IsSettled m rows work = (i j k : ℕ) → IsProperTriple work.nodes i j k → IsCharged rows i k → IsSettledAt m work i j k

@@ -18,4 +18,4 @@ pub use order::Proposals;
 pub use pairs::{Note, PairSets};
 pub use propagation::{Emptied, propagate, propagate_all, propagate_noted, put_pair, refine};
 pub use span::{Span, all_nodes};
-pub use sweeping::{Sweep, sweep_row};
+pub use sweeping::{Sweep, sweep_rows};

@@ -133,7 +133,7 @@ fn narrow_proper<C: Compose, const P: usize>(
 /// Narrows the set of `(i, k)` along `j` for the nodes `k` of a block that are in the range and whose lane is set in
 /// `gaps`.
 #[inline(never)]
-fn narrow_lanes<C: Compose, const P: usize>(
+pub(crate) fn narrow_lanes<C: Compose, const P: usize>(
     work: &mut PairSets,
     tables: &Tables,
     c: &C,

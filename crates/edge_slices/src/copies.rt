@@ -39,6 +39,9 @@ const TURNS: u32 = 1_000_000;
 /// The most sweeps after the first whole one.
 const SWEEPS: u32 = 16;
 
+/// How many rows are swept at once, before the words are narrowed as they were.
+pub(crate) const ROWS: u32 = 2;
+
 /// What a turn on a copy came to.
 #[derive(Clone, Copy, Debug, PartialEq, Eq)]
 pub(crate) enum Turn {
@@ -200,8 +203,8 @@ fn read_if<C: Compose>(
     wanted && read_words(table, pass, c, snap, copy, listener)
 }
 
-/// Sweeps the rows of the slice on the copy, and narrows the words as it did after each row. Returns whether no set of
-/// the copy became empty.
+/// Sweeps the rows of the slice on the copy, some at once, and narrows the words as it did after these. Returns whether
+/// no set of the copy became empty.
 fn sweep_rows<C: Compose>(
     table: &OpenNet,
     pass: &mut Pass,
@@ -221,12 +224,15 @@ fn sweep_rows<C: Compose>(
 {
     copy.forget_queue();
     let (first, end) = copy.rows();
-    for i in first..end {
-        let going_on = copy.sweep_row(c, i, sweep);
+    let mut i = first;
+    while i < end {
+        let next = end.min(i.saturating_add(ROWS));
+        let going_on = copy.sweep_rows(c, i, next, sweep);
         follow(table, pass, c, snap, copy, listener);
         if !going_on {
             return false;
         }
+        i = next;
     }
     true
 }

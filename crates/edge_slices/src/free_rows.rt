@@ -95,11 +95,11 @@ impl FreeRows {
         }
     }
 
-    /// One of so many rows that nobody asked for yet.
-    pub(crate) fn next(&self, rows: u32) -> Option<u32>
+    /// The first of so many rows side by side that nobody asked for yet, or of fewer at the end.
+    pub(crate) fn next(&self, count: u32, rows: u32) -> Option<u32>
         ensures { IfSome result (λ row. row < rows) }
     {
-        let row = self.next.fetch_add(1, Ordering::SeqCst);
+        let row = self.next.fetch_add(count, Ordering::SeqCst);
         if row < rows { Some(row) } else { None }
     }
 

@@ -98,8 +98,9 @@ impl Inbox {
     }
 }
 
-/// The workers on a table that have something to look at, or may have, how often they told of words that they made
-/// less, in which rows, each in its turn as it began to listen, and the rows that none has yet.
+/// The workers on a table: how many have something to look at, or may have; how often they told of words that they made
+/// less, and in which rows, an inbox for each, in the order in which they began to listen; and the rows that none has
+/// yet.
 #[derive(Drop)]
 pub struct Others {
     busy: AtomicU32,

@@ -14,7 +14,9 @@ ghost use Rattle.closure_seq.specs.Copies.{IsSettledCopy};
 ghost use Rattle.edge_slices.specs.Slices.{IsLooking, LooksOn, IsCopyFor, IsSettledFor, IsHeld};
 ghost use Rattle.edge_slices.specs.Slices.{HasClash, IsSliceClosed};
 
-use crate::copies::{Turn, after_empty, edges_of_row, follow, read_words, sweep_again, take_turns};
+use crate::copies::{
+    ROWS, Turn, after_empty, edges_of_row, follow, read_words, sweep_again, take_turns,
+};
 use crate::free_rows::{Side, block_size};
 use crate::others::Listener;
 use calculus_table::Compose;
@@ -73,8 +75,8 @@ fn take_words<C: Compose>(
     }
 }
 
-/// Sweeps rows that nobody asked for yet along the sets of few base relations, each with what others made less before,
-/// and narrows the words as it did after each row. Returns whether no set of the copy became empty.
+/// Sweeps rows that nobody asked for yet along the sets of few base relations, some at once, with what others made less
+/// before, and narrows the words as it did after these. Returns whether no set of the copy became empty.
 fn sweep_first<C: Compose>(
     table: &OpenNet,
     pass: &mut Pass,
@@ -91,11 +93,12 @@ fn sweep_first<C: Compose>(
 {
     let (_first, end) = copy.rows();
     for _turn in 0..table.nodes() {
-        let Some(row) = listener.others.rows.next(end) else {
+        let Some(row) = listener.others.rows.next(ROWS, end) else {
             return true;
         };
         take_words(table, pass, c, snap, copy, listener);
-        let going_on = copy.sweep_row(c, row, Sweep::First);
+        let next = end.min(row.saturating_add(ROWS));
+        let going_on = copy.sweep_rows(c, row, next, Sweep::First);
         follow(table, pass, c, snap, copy, listener);
         if !going_on {
             return false;
@@ -104,8 +107,8 @@ fn sweep_first<C: Compose>(
     true
 }
 
-/// Sweeps the row on a side of the copy's rows, which it then belongs to, and narrows the words as it did. Returns
-/// whether no set of the copy became empty.
+/// Sweeps so many rows on a side of the copy's rows, as far as there are, which they then belong to, and narrows the
+/// words as it did. Returns whether no set of the copy became empty.
 fn sweep_beside<C: Compose>(
     table: &OpenNet,
     pass: &mut Pass,
@@ -114,6 +117,7 @@ fn sweep_beside<C: Compose>(
     copy: &mut SliceCopy,
     listener: &mut Listener<'_>,
     side: Side,
+    count: u32,
 ) -> bool
     requires looking { IsLooking table.now pass.old snap.old }
     requires calculus { C.algebra c.now ≡ algebra_of table.now.opening }
@@ -124,14 +128,14 @@ fn sweep_beside<C: Compose>(
 {
     let (first, end) = copy.rows();
     let going_on = match side {
-        Side::Before => first == 0 || copy.sweep_before(c),
-        Side::After => end >= table.nodes() - 1 || copy.sweep_after(c),
+        Side::Before => copy.sweep_before(c, count.min(first)),
+        Side::After => copy.sweep_after(c, count.min((table.nodes() - 1).saturating_sub(end))),
     };
     follow(table, pass, c, snap, copy, listener);
     going_on
 }
 
-/// Sweeps so many rows on a side of the copy's rows, as far as there are.
+/// Sweeps a block of so many rows on a side of the copy's rows, some at once.
 fn sweep_block<C: Compose>(
     table: &OpenNet,
     pass: &mut Pass,
@@ -149,10 +153,13 @@ fn sweep_block<C: Compose>(
     ensures settled { result ≡ true → IsSettledFor (C.algebra c.now) table.now.opening.nodes copy.new }
     ensures copy { IsCopyFor (C.algebra c.now) table.now.opening.nodes copy.new }
 {
-    for _row in 0..size {
-        if !sweep_beside(table, pass, c, snap, copy, listener, side) {
+    let mut left = size;
+    while left > 0 {
+        let count = left.min(ROWS);
+        if !sweep_beside(table, pass, c, snap, copy, listener, side, count) {
             return false;
         }
+        left -= count;
     }
     true
 }

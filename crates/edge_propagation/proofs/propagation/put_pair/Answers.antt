@@ -1,6 +1,3 @@
-use Rattle.std.proofs.Common.{◌≡◌}
-use Rattle.calculus_table.specs.Composition.{full_of}
-use Rattle.calculus_table.proofs.Compositions.{converse-within}
 use Rattle.edge_propagation.proofs.Planes.{set-fits}
 use Rattle.edge_propagation.proofs.propagation.put_pair.Goals as goal
 

@@ -1,4 +1,4 @@
-use Rattle.std.proofs.Common.{◌≡◌}
+use Rattle.std.proofs.Common.{◌≡◌, ◌≤◌, ◌-◌}
 use Rattle.edge_propagation.specs.declared.sweeping.Sweep.TheVariants as sweep
 use Rattle.closure_seq.specs.Copies.{IsOpenCopy, IsSweptCopy}
 use Rattle.edge_slices.specs.Slices.{LooksOn}
@@ -14,4 +14,8 @@ invariant-loop-i g l =
       slice : l.copy.slice ≡ l.fn.copy.slice;
       first : l.copy.rows.first ≡ l.first;
       last : l.copy.rows.end ≡ l.end;
+      below : l.first ≤ l.end → l.i ≤ l.end;
     }
+
+abbrev pub decreases-loop-i : goal.decreases-loop-i
+decreases-loop-i g l = l.end - l.i

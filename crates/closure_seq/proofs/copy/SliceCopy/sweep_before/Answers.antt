@@ -1,4 +1,4 @@
-use Rattle.std.proofs.Common.{◌-◌, ◌<◌, sym, refl, subst}
+use Rattle.std.proofs.Common.{◌-◌, sym, refl, subst, arith}
 use Rattle.closure_seq.specs.Copies.{CopyState, IsSettledCopy}
 use Rattle.closure_seq.proofs.TakenRows.{IsSettledCopy-before}
 use Rattle.closure_seq.proofs.copy.SliceCopy.sweep_before.Goals as goal
@@ -11,7 +11,7 @@ returns-clause-settled g c = λ going.
     let w = c.sweep_planes.ensures in
     let bases = c.sweep_planes.new.tables.bases in
     let copy : CopyState = record { slice = record { nodes = own.pairs.nodes; from = own.from; to = own.to }; rows = own.rows; work = own.pairs; bases = own.tables.bases } in
-    subst (λ n. IsSettledCopy m (record { slice = record { nodes = n; from = own.from; to = own.to }; rows = record { first = own.rows.first - 1; end = own.rows.end }; work = work; bases = bases }))
+    subst (λ n. IsSettledCopy m (record { slice = record { nodes = n; from = own.from; to = own.to }; rows = record { first = own.rows.first - c.args.count; end = own.rows.end }; work = work; bases = bases }))
     (sym w.step.nodes)
-    (IsSettledCopy-before m copy work bases w.step w.tables (subst (λ (y : CopyState). 0 < y.rows.first) (sym c.self.view_is) c.requires.some) (w.settled going refl)
+    (IsSettledCopy-before m copy work bases w.step w.tables (own.rows.first - c.args.count) (omega arith) (w.settled going refl)
     (subst (IsSettledCopy m) (sym c.self.view_is) c.requires.settled))

@@ -1,7 +1,7 @@
 use Rattle.std.proofs.Common.{◌≡◌, ◌<◌, ◌+◌, ◌*◌, ◌++◌, take, drop, List, ℕ, length, ap, ◌∙◌, arith}
 use Rattle.std.proofs.lemmas.Grind.{common_steps}
 use Rattle.std.specs.Prelude.{slice_set}
-use Rattle.edge_propagation.specs.Worklist.{Worklist, sets_in, worklist_in}
+use Rattle.edge_propagation.specs.Worklist.{sets_in, worklist_in}
 use Rattle.edge_propagation.proofs.Planes.{AreBytesOf-put, IsSized-put, sets_in-put}
 use Rattle.edge_propagation.proofs.pairs.PairSets.put.Goals as goal
 

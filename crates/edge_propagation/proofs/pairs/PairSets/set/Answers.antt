@@ -1,4 +1,4 @@
-use Rattle.std.proofs.Common.{◌≡◌, ◌+◌, ◌*◌, ◌<◌, sym, ◌∙◌, ap, arith}
+use Rattle.std.proofs.Common.{◌+◌, ◌*◌, ◌<◌, sym, ◌∙◌, ap, arith}
 use Rattle.edge_propagation.specs.Worklist.{set_of_bytes}
 use Rattle.edge_propagation.proofs.Planes.{sets_in-at}
 use Rattle.edge_propagation.proofs.pairs.PairSets.set.Goals as goal

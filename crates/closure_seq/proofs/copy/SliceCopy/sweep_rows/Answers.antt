@@ -1,7 +1,7 @@
-use Rattle.std.proofs.Common.{◌+◌, sym, subst}
+use Rattle.std.proofs.Common.{sym, subst}
 use Rattle.closure_seq.specs.Copies.{CopyState, IsSweptCopy}
-use Rattle.closure_seq.proofs.Copies.{IsSweptCopy-row}
-use Rattle.closure_seq.proofs.copy.SliceCopy.sweep_row.Goals as goal
+use Rattle.closure_seq.proofs.Copies.{IsSweptCopy-rows}
+use Rattle.closure_seq.proofs.copy.SliceCopy.sweep_rows.Goals as goal
 
 pub returns-clause-swept : goal.returns-clause-swept
 returns-clause-swept g c = λ going whole before.
@@ -11,7 +11,7 @@ returns-clause-swept g c = λ going whole before.
     let w = c.sweep_planes.ensures in
     let copy : CopyState = record { slice = record { nodes = own.pairs.nodes; from = own.from; to = own.to }; rows = own.rows; work = own.pairs; bases = own.tables.bases } in
     let bases = c.sweep_planes.new.tables.bases in
-    subst (λ n. IsSweptCopy m (record { slice = record { nodes = n; from = own.from; to = own.to }; rows = own.rows; work = work; bases = bases }) (c.args.i + 1))
+    subst (λ n. IsSweptCopy m (record { slice = record { nodes = n; from = own.from; to = own.to }; rows = own.rows; work = work; bases = bases }) c.args.end)
     (sym w.step.nodes)
-    (IsSweptCopy-row m copy work bases c.args.i w.step w.tables (w.settled going whole)
-    (subst (λ (y : CopyState). IsSweptCopy m y c.args.i) (sym c.self.view_is) before))
+    (IsSweptCopy-rows m copy work bases c.args.first c.args.end w.step w.tables (w.settled going whole)
+    (subst (λ (y : CopyState). IsSweptCopy m y c.args.first) (sym c.self.view_is) before))
