@@ -9,12 +9,12 @@
 //! by queueing each edge whose set isn't full, or by a sweep of the rows of the slice, which is less where most edges
 //! are stated. Then edges are taken off the queue.
 
-ghost use Rattle.std.specs.Prelude.{◌≡◌, ◌*◌, ◌<◌, ◌≤◌, length, IsTrue};
+ghost use Rattle.std.specs.Prelude.{◌≡◌, ◌*◌, ◌<◌, ◌≤◌, length, IsTrue, false};
 ghost use Rattle.network_words.specs.Edge.{edge_count, IsProperPair};
 ghost use Rattle.network_words.specs.declared.TheConstants.{MAX_NODES};
 ghost use Rattle.compose_fast.specs.Planes.{AreBaseTables};
 ghost use Rattle.edge_propagation.specs.Propagation.{AreConverses, IsReady, IsRefinement, IsStep};
-ghost use Rattle.edge_propagation.specs.Propagation.{IsSettled, AreRowsSettled};
+ghost use Rattle.edge_propagation.specs.Propagation.{IsSettled, AreRowsSettled, HasEmpty};
 ghost use Rattle.edge_propagation.specs.Propagation.{IsPlanes, IsMet, IsPairMet, AreRowsMet};
 
 use crate::rows::{edges_of, rows_of};
@@ -105,6 +105,7 @@ fn propagate_planes<C: Compose>(
     requires tables { AreBaseTables (C.algebra c.now) pairs.old.planes tables.old.bases }
     ensures refined { IsRefinement (C.algebra c.now) pairs.old pairs.new }
     ensures settled { IsTrue result → IsSettled (C.algebra c.now) rows pairs.new }
+    ensures empty { result ≡ false → HasEmpty pairs.new }
     ensures tables { tables.new.bases ≡ tables.old.bases }
 {
     let planes = pairs.planes();
@@ -134,6 +135,7 @@ fn sweep_planes<C: Compose>(
     requires tables { AreBaseTables (C.algebra c.now) pairs.old.planes tables.old.bases }
     ensures step { IsStep (C.algebra c.now) pairs.old pairs.new }
     ensures settled { IsTrue result → sweep ≡ Sweep.Whole → AreRowsSettled (C.algebra c.now) pairs.new rows }
+    ensures empty { result ≡ false → HasEmpty pairs.new }
     ensures tables { tables.new.bases ≡ tables.old.bases }
 {
     let planes = pairs.planes();
@@ -173,13 +175,13 @@ impl Model for SliceCopy {
 }
 
 impl SliceCopy {
-    ghost use Rattle.std.specs.Prelude.{◌≡◌, ◌+◌, ◌-◌, ◌<◌, ◌≤◌, length, IsTrue, IfOk};
+    ghost use Rattle.std.specs.Prelude.{◌≡◌, ◌+◌, ◌-◌, ◌<◌, ◌≤◌, length, IsTrue, false, IfOk};
     ghost use Rattle.calculus_table.specs.Algebra.{Algebra};
     ghost use Rattle.network_words.specs.Edge.{edge_count, IsProperPair};
     ghost use Rattle.network_words.specs.Network.{IsNetwork};
     ghost use Rattle.network_words.specs.Closure.{IsClosed, IsRangeClosed};
     ghost use Rattle.network_words.specs.declared.TheConstants.{MAX_NODES};
-    ghost use Rattle.edge_propagation.specs.Propagation.{IsPairMet, AreRowsMet};
+    ghost use Rattle.edge_propagation.specs.Propagation.{IsPairMet, AreRowsMet, HasEmpty};
     ghost use Rattle.closure_seq.specs.Copies.{Slice, IsCopyOf, IsOpenCopy, IsSettledCopy, IsSweptCopy};
     ghost use Rattle.closure_seq.specs.Copies.{TakesOver, AreEdgesOf};
 
@@ -296,6 +298,7 @@ impl SliceCopy {
         ensures is_open { IsOpenCopy (C.algebra c.now) self.new }
         ensures swept { IsTrue result → sweep ≡ Sweep.Whole → IsSweptCopy (C.algebra c.now) self.old first →
             IsSweptCopy (C.algebra c.now) self.new end }
+        ensures empty { result ≡ false → HasEmpty self.new.work }
         ensures slice { self.new.slice ≡ self.old.slice }
         ensures rows { self.new.rows ≡ self.old.rows }
     {
@@ -324,6 +327,7 @@ impl SliceCopy {
         requires below { self.old.rows.end + count ≤ self.old.slice.nodes }
         ensures is_open { IsOpenCopy (C.algebra c.now) self.new }
         ensures settled { IsTrue result → IsSettledCopy (C.algebra c.now) self.new }
+        ensures empty { result ≡ false → HasEmpty self.new.work }
         ensures slice { self.new.slice ≡ self.old.slice }
         ensures rows { self.new.rows ≡
             record { first = self.old.rows.first; end = self.old.rows.end + count } }
@@ -343,6 +347,7 @@ impl SliceCopy {
         requires some { count ≤ self.old.rows.first }
         ensures is_open { IsOpenCopy (C.algebra c.now) self.new }
         ensures settled { IsTrue result → IsSettledCopy (C.algebra c.now) self.new }
+        ensures empty { result ≡ false → HasEmpty self.new.work }
         ensures slice { self.new.slice ≡ self.old.slice }
         ensures rows { self.new.rows ≡
             record { first = self.old.rows.first - count; end = self.old.rows.end } }
@@ -416,6 +421,7 @@ impl SliceCopy {
     pub fn close_rows<C: Compose>(&mut self, c: &C) -> bool
         requires settled { IsSettledCopy (C.algebra c.now) self.old }
         ensures settled { IsTrue result → IsSettledCopy (C.algebra c.now) self.new }
+        ensures empty { result ≡ false → HasEmpty self.new.work }
         ensures slice { self.new.slice ≡ self.old.slice }
     {
         propagate_planes(&mut self.pairs, &mut self.tables, c, self.rows)

@@ -316,6 +316,7 @@ pub fn propagate_noted<C: Compose, const P: usize>(
     requires tables { AreBaseTables (C.algebra c.now) P tables.old.bases }
     ensures refined { IsRefinement (C.algebra c.now) work.old work.new }
     ensures settled { OnOk result (IsSettled (C.algebra c.now) rows work.new) }
+    ensures empty { OnErr result (HasEmpty work.new) }
     ensures tables { tables.new.bases ≡ tables.old.bases }
 {
     while let Some((i, j)) = work.pop_noted() {

@@ -11,10 +11,11 @@
 //! Where a set takes one plane, two rows are swept at once. Along a third node both read the same blocks, so these are
 //! read, and split into nibbles, once for both; and the tables of the two sets stay in registers meanwhile.
 
-ghost use Rattle.std.specs.Prelude.{◌≡◌, ℕ, ◌+◌, ◌*◌, ◌<◌, ◌≤◌, ◌≢◌, true, IfOk, IfSome, IfNone, OnOk};
+ghost use Rattle.std.specs.Prelude.{◌≡◌, ℕ, ◌+◌, ◌*◌, ◌<◌, ◌≤◌, ◌≢◌, true, IfOk, IfSome, IfNone, OnOk, OnErr};
 ghost use Rattle.network_words.specs.Edge.{IsProperPair, IsProperTriple};
 ghost use Rattle.compose_fast.specs.Planes.{AreBaseTables};
-ghost use Rattle.edge_propagation.specs.Propagation.{IsReady, IsStep, IsSettledAt, IsRowSettled, AreRowsSettled};
+ghost use Rattle.edge_propagation.specs.Propagation.{IsReady, IsStep, HasEmpty, IsSettledAt, IsRowSettled};
+ghost use Rattle.edge_propagation.specs.Propagation.{AreRowsSettled};
 ghost use Rattle.edge_propagation.specs.Sweeps.{IsSource, IsBlockSettledBut, IsOpenBlock};
 ghost use Rattle.edge_propagation.specs.Sweeps.{AreSettledBetween, AreBothSettled};
 
@@ -86,6 +87,7 @@ fn sweep_along<C: Compose, const P: usize>(
     ensures step { IsStep (C.algebra c.now) work.old work.new }
     ensures settled { OnOk result (sweep ≡ Sweep.Whole → (k : ℕ) → i < k → IsProperTriple work.old.nodes i j k →
         IsSettledAt (C.algebra c.now) work.new i j k) }
+    ensures empty { OnErr result (HasEmpty work.new) }
     ensures tables { tables.new.bases ≡ tables.old.bases }
 {
     let nodes = work.nodes();
@@ -112,6 +114,7 @@ fn sweep_row<C: Compose, const P: usize>(
     requires tables { AreBaseTables (C.algebra c.now) P tables.old.bases }
     ensures step { IsStep (C.algebra c.now) work.old work.new }
     ensures settled { OnOk result (sweep ≡ Sweep.Whole → IsRowSettled (C.algebra c.now) work.new i) }
+    ensures empty { OnErr result (HasEmpty work.new) }
     ensures tables { tables.new.bases ≡ tables.old.bases }
 {
     let nodes = work.nodes();
@@ -258,6 +261,7 @@ fn narrow_greater<C: Compose>(
     ensures step { IsStep (C.algebra c.now) work.old work.new }
     ensures settled { OnOk result ((k : ℕ) → i < k → 16 * block ≤ k → k < 16 * (block + 1) →
         IsProperTriple work.old.nodes i j k → IsSettledAt (C.algebra c.now) work.new i j k) }
+    ensures empty { OnErr result (HasEmpty work.new) }
     ensures tables { tables.new.bases ≡ tables.old.bases }
 {
     let nodes = work.nodes();
@@ -295,6 +299,7 @@ fn narrow_open_block<C: Compose>(
     ensures step { IsStep (C.algebra c.now) work.old work.new }
     ensures settled { OnOk result
         (AreSettledBetween (C.algebra c.now) work.new i j found.block (found.block + 1)) }
+    ensures empty { OnErr result (HasEmpty work.new) }
     ensures tables { tables.new.bases ≡ tables.old.bases }
 {
     let _nodes = work.nodes();
@@ -316,6 +321,7 @@ fn propagate_two<C: Compose>(
     requires tables { AreBaseTables (C.algebra c.now) 1 tables.old.bases }
     ensures step { IsStep (C.algebra c.now) work.old work.new }
     ensures settled { OnOk result (AreBothSettled (C.algebra c.now) work.new i j) }
+    ensures empty { OnErr result (HasEmpty work.new) }
     ensures tables { tables.new.bases ≡ tables.old.bases }
 {
     let nodes = work.nodes();
@@ -348,6 +354,7 @@ fn sweep_two_along<C: Compose>(
     requires tables { AreBaseTables (C.algebra c.now) 1 tables.old.bases }
     ensures step { IsStep (C.algebra c.now) work.old work.new }
     ensures settled { OnOk result (sweep ≡ Sweep.Whole → AreBothSettled (C.algebra c.now) work.new i j) }
+    ensures empty { OnErr result (HasEmpty work.new) }
     ensures tables { tables.new.bases ≡ tables.old.bases }
 {
     let _nodes = work.nodes();
@@ -372,6 +379,7 @@ fn sweep_two<C: Compose>(
     ensures step { IsStep (C.algebra c.now) work.old work.new }
     ensures first { OnOk result (sweep ≡ Sweep.Whole → IsRowSettled (C.algebra c.now) work.new i) }
     ensures second { OnOk result (sweep ≡ Sweep.Whole → IsRowSettled (C.algebra c.now) work.new (i + 1)) }
+    ensures empty { OnErr result (HasEmpty work.new) }
     ensures tables { tables.new.bases ≡ tables.old.bases }
 {
     for j in 0..work.nodes() {
@@ -398,6 +406,7 @@ fn sweep_next<C: Compose, const P: usize>(
     ensures next { IfOk result (λ next. (i < next) × (next ≤ end)) }
     ensures settled { IfOk result (λ next. sweep ≡ Sweep.Whole → (r : ℕ) → i ≤ r → r < next →
         IsRowSettled (C.algebra c.now) work.new r) }
+    ensures empty { OnErr result (HasEmpty work.new) }
     ensures tables { tables.new.bases ≡ tables.old.bases }
 {
     let _nodes = work.nodes();
@@ -422,6 +431,7 @@ pub fn sweep_rows<C: Compose, const P: usize>(
     requires tables { AreBaseTables (C.algebra c.now) P tables.old.bases }
     ensures step { IsStep (C.algebra c.now) work.old work.new }
     ensures settled { OnOk result (sweep ≡ Sweep.Whole → AreRowsSettled (C.algebra c.now) work.new rows) }
+    ensures empty { OnErr result (HasEmpty work.new) }
     ensures tables { tables.new.bases ≡ tables.old.bases }
 {
     let mut i = rows.first;

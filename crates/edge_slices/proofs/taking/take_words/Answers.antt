@@ -1,5 +1,5 @@
-use Rattle.std.proofs.Common.{refl, ◌∙◌}
-use Rattle.edge_slices.proofs.Looks.{LooksOn-refl, LooksOn-trans}
+use Rattle.std.proofs.Common.{refl}
+use Rattle.edge_slices.proofs.Looks.{LooksOn-refl}
 use Rattle.edge_slices.proofs.taking.take_words.Goals as goal
 
 pub loop-turn-init : goal.loop-turn-init
