@@ -3,11 +3,6 @@
 pub trait Gate {
     /// Passes the point of this number.
     fn pass(&self, point: u32);
-
-    /// Whether nobody is delayed at any point, so that no thread need be started to pass points alone.
-    fn is_open(&self) -> bool {
-        false
-    }
 }
 
 /// The gate that does nothing.
@@ -16,8 +11,4 @@ pub struct NoGate;
 
 impl Gate for NoGate {
     fn pass(&self, _point: u32) {}
-
-    fn is_open(&self) -> bool {
-        true
-    }
 }
