@@ -4,13 +4,14 @@
 Usage: bench/serving.py [--program PROGRAM] [--turns N]
 
 The plain program, bench/plain_serve.cpp, works the lines off on one thread and starts a version from the words of the one
-before. The scripts have 50 batches of 200 lines of 64 sessions at 128 regions: facts that hold of random rectangles, peeks
-and asks, and in one row withdrawals. The sets that peeks show may differ; all else is compared. Besides that it times what a
-batch that withdraws costs against closing its facts anew, and what ten thousand asks cost.
+before. The scripts are of 64 sessions at 128 or 256 regions: facts that hold of random rectangles, peeks and asks, and in one
+row withdrawals. The program serves them by one worker, in which all is done in turn, and as it does where no number is named.
+Each turn runs the three one after another; the ratios are medians of those of a turn. The sets that peeks show may differ; all
+else is compared.
 """
 import argparse, os, random, subprocess, sys, tempfile
 
-from timing import PROGRAM, TOP, timed
+from timing import PROGRAM, TOP, timed_in_turn
 
 NAMES = ["DC", "EC", "PO", "TPP", "NTPP", "TPPi", "NTPPi", "EQ"]
 
@@ -34,14 +35,14 @@ def relation(a, b):
     return "PO"
 
 
-def script(seed, nodes, batches, lines, sessions, facts, withdrawals):
-    """A script of which this part of the lines are facts, and this part withdrawals."""
+def script(seed, nodes, batches, lines, facts, withdrawals=0, looks=("peek", "ask")):
+    """A script of 64 sessions of which this part of the lines are facts, and this part withdrawals; the others look at sets."""
     rng = random.Random(seed)
     drawn, held, stated, text = rectangles(rng, nodes), [], 0, []
     for _ in range(batches):
         new = []
         for _ in range(lines):
-            session, kind, (i, j) = rng.randrange(sessions), rng.random(), rng.sample(range(nodes), 2)
+            session, kind, (i, j) = rng.randrange(64), rng.random(), rng.sample(range(nodes), 2)
             if kind < facts:
                 stated += 1
                 new.append((stated, session))
@@ -51,7 +52,7 @@ def script(seed, nodes, batches, lines, sessions, facts, withdrawals):
                 fact, owner = held.pop(rng.randrange(len(held)))
                 text.append(f"s{owner} withdraw {fact}")
             else:
-                text.append(f"s{session} {rng.choice(['peek', 'ask'])} {i} {j}")
+                text.append(f"s{session} {rng.choice(looks)} {i} {j}")
         held += new
         text.append("commit")
     return "\n".join(text) + "\n"
@@ -68,10 +69,11 @@ def main():
     parser.add_argument("--turns", type=int, default=7)
     asked = parser.parse_args()
     rows = [
-        ("50 batches of 200 lines", 128, script(1, 128, 50, 200, 64, 0.5, 0)),
-        ("the same, with withdrawals", 128, script(2, 128, 50, 200, 64, 0.5, 0.05)),
-        ("50 batches of 200 asks and peeks", 128, script(3, 128, 50, 200, 64, 0.01, 0)),
-        ("50 batches of 4,096 lines", 256, script(4, 256, 50, 4096, 64, 0.3, 0)),
+        ("50 batches of 200 lines", 128, script(1, 128, 50, 200, 0.5)),
+        ("the same, with withdrawals", 128, script(2, 128, 50, 200, 0.5, withdrawals=0.05)),
+        ("50 batches of 200 asks and peeks", 128, script(3, 128, 50, 200, 0.01)),
+        ("16 batches of 3,125 facts and peeks", 256, script(5, 256, 16, 3125, 0.5, looks=("peek",))),
+        ("50 batches of 4,096 lines", 256, script(4, 256, 50, 4096, 0.3)),
     ]
     with tempfile.TemporaryDirectory() as folder:
         plain, path = os.path.join(folder, "plain_serve"), os.path.join(folder, "script")
@@ -79,12 +81,12 @@ def main():
         for name, nodes, text in rows:
             with open(path, "w") as file:
                 file.write(text)
-            theirs, plain_replies, _ = timed([plain, str(nodes)], path, asked.turns)
-            for workers in ("1", "4"):
-                ours, replies, _ = timed([asked.program, "serve", "rcc8", str(nodes), "--workers", workers], path, asked.turns)
-                if without_peeks(replies) != without_peeks(plain_replies):
-                    sys.exit(f"the two disagree on {name}")
-                print(f"{name:34} {workers} workers  program {ours:8.1f} ms  plain {theirs:8.1f} ms  ratio {ours / theirs:5.2f}")
+            served = [asked.program, "serve", "rcc8", str(nodes)]
+            commands = [[*served, "--workers", "1"], served, [plain, str(nodes)]]
+            (one, several, theirs), (_, ratio, plain_ratio), replies = timed_in_turn(commands, path, asked.turns)
+            if any(without_peeks(each) != without_peeks(replies[0][0]) for each, _ in replies):
+                sys.exit(f"the three disagree on {name}")
+            print(f"{name:36} one worker {one:8.1f} ms  none named {several:8.1f} ({ratio:.2f})  plain {theirs:8.1f} ({plain_ratio:.2f})", flush=True)
 
 
 if __name__ == "__main__":

@@ -16,6 +16,22 @@ def timed(command, path, turns):
     return statistics.median(times) * 1000, done.stdout, done.returncode
 
 
+def timed_in_turn(commands, path, turns):
+    """Runs the commands on the file in turn, so many times each: the median milliseconds of each, the median of its ratios to the first one of the
+    same turn, and what each wrote last and its status."""
+    times, last = [[] for _ in commands], [None] * len(commands)
+    for _ in range(turns):
+        for place, command in enumerate(commands):
+            with open(path) as source:
+                begun = time.perf_counter()
+                done = subprocess.run(command, stdin=source, capture_output=True)
+                times[place].append(time.perf_counter() - begun)
+            last[place] = (done.stdout, done.returncode)
+    medians = [statistics.median(each) * 1000 for each in times]
+    ratios = [statistics.median(own / first for own, first in zip(each, times[0])) for each in times]
+    return medians, ratios, last
+
+
 def crates_below(depends):
     """The crates that these stand on, and they themselves, as crates.txt has them."""
     with open(os.path.join(TOP, "crates.txt")) as file:

@@ -1,7 +1,7 @@
 #!/usr/bin/env python3
 """Times the closure of a network by workers, beside the same on one thread in the same run.
 
-Usage: bench/workers.py [--count] [NODES ..]      (default: 3 20 64 128 256)
+Usage: bench/workers.py [--count | --runs] [NODES ..]      (default: 3 20 64 128 256)
 
 The library has no program of its own, so this writes a small one into a folder for temporary files, with copies of the crates, and has it
 proved and built there, which takes as long as proving those crates does where no check was kept. The program reads a network of regions or of intervals
@@ -12,12 +12,15 @@ g++ -O2): so much can be had of four processors here.
 
 With --count it counts instructions in place of that (valgrind --tool=callgrind), which others' use of the processors doesn't change: the millions of a
 closing on one thread, and of one by four workers together, of which one is the thread that starts the others; what a quarter of that comes to as a part
-of the first. That takes a minute or two a network; only those whose edges are shared out tell something.
+of the first. That takes a minute or two a network.
+
+With --runs it times whole runs of the program, which rt ci leaves, in place of that: where no number of workers is named and where four are, in turn with
+one worker, 21 times each. Prints the median milliseconds of one worker, and the median ratios of the others to it in the same turn.
 """
 import glob, os, random, re, statistics, subprocess, sys, tempfile
 
 from closure import chain, random_network, set_with
-from timing import TOP, build_program
+from timing import PROGRAM as BUILT, TOP, build_program, timed_in_turn
 
 INTERVALS = "b bi m mi o oi s si d di f fi eq".split()
 DEPENDS = (
@@ -185,26 +188,50 @@ def counted(program, text):
     return one / 1e6, (others / closings + starter) / 1e6, starter / 1e6
 
 
+def kinds(nodes):
+    """Networks of so many nodes, by what they are called."""
+    return (
+        ("chain", chain(nodes)),
+        ("regions, degree 12", random_network(nodes, 12, 1)),
+        ("regions, every pair", random_network(nodes, nodes, 1)),
+        ("regions, every pair, half of the relations", random_network(nodes, nodes, 1, half=True)),
+        ("intervals, degree 12", interval_network(nodes, 12, 1)),
+        ("intervals, every pair", interval_network(nodes, nodes, 1)),
+        ("intervals, every pair, half of the relations", interval_network(nodes, nodes, 1, half=True)),
+    )
+
+
+def time_runs(sizes):
+    """Times whole runs of the program on each network."""
+    program = BUILT[0]
+    with tempfile.TemporaryDirectory() as folder:
+        path = os.path.join(folder, "network")
+        for nodes in sizes:
+            for kind, text in kinds(nodes):
+                with open(path, "w") as file:
+                    file.write(text)
+                calculus = "allen" if kind.startswith("intervals") else "rcc8"
+                commands = [[program, "close", calculus, *words] for words in (["--workers", "1"], [], ["--workers", "4"])]
+                medians, ratios, written = timed_in_turn(commands, path, 21)
+                if any(each != written[0] for each in written):
+                    sys.exit(f"{kind} of {nodes}: the texts differ")
+                print(f"{kind}, {nodes} nodes: one worker {medians[0]:.2f} ms, none named {ratios[1]:.2f}, four workers {ratios[2]:.2f}", flush=True)
+
+
 def main():
     words = sys.argv[1:]
     counts = "--count" in words
-    sizes = [int(word) for word in words if word != "--count"] or [3, 20, 64, 128, 256]
+    sizes = [int(word) for word in words if not word.startswith("--")] or [3, 20, 64, 128, 256]
+    if "--runs" in words:
+        time_runs(sizes)
+        return
     with tempfile.TemporaryDirectory() as folder:
         loops = os.path.join(folder, "processors")
         subprocess.run(["g++", "-O2", "-std=c++17", "-pthread", "-o", loops, os.path.join(TOP, "bench/processors.cpp")], check=True)
         program = build_program(os.path.join(folder, "program"), "worker_times", DEPENDS, {"src/main.rt": PROGRAM})
         print(f"a thread among four takes {subprocess.run([loops], capture_output=True, text=True, check=True).stdout.strip()}", flush=True)
         for nodes in sizes:
-            kinds = (
-                ("chain", chain(nodes)),
-                ("regions, degree 12", random_network(nodes, 12, 1)),
-                ("regions, every pair", random_network(nodes, nodes, 1)),
-                ("regions, every pair, half of the relations", random_network(nodes, nodes, 1, half=True)),
-                ("intervals, degree 12", interval_network(nodes, 12, 1)),
-                ("intervals, every pair", interval_network(nodes, nodes, 1)),
-                ("intervals, every pair, half of the relations", interval_network(nodes, nodes, 1, half=True)),
-            )
-            for kind, text in kinds:
+            for kind, text in kinds(nodes):
                 if counts:
                     one, four, starter = counted(program, text)
                     print(f"{kind}, {nodes} nodes: one thread {one:.1f} M, four workers {four:.1f}, {starter:.1f} of these the first ({four / 4 / one:.2f})", flush=True)

@@ -7,17 +7,16 @@ use Rattle.calculus_table.specs.Algebra.{Algebra}
 use Rattle.calculus_table.specs.Composition.{converse}
 use Rattle.calculus_table.proofs.Sets.{IsWithin-refl, IsWithin-trans}
 use Rattle.calculus_table.proofs.Compositions.{converse-mono}
-use Rattle.network_words.specs.Edge.{edge_count, edge_at, edge_between, IsProperPair, IsProperTriple, IsSamePair}
+use Rattle.network_words.specs.Edge.{edge_count, edge_at, edge_between, IsProperPair, IsSamePair}
 use Rattle.network_words.specs.Network.{relation_between}
-use Rattle.network_words.specs.Closure.{IsClosed}
 use Rattle.network_words.proofs.Edges.{edge_at-lt, edge_between-forward}
 use Rattle.network_words.proofs.Networks.{relation_between-forward, relation_between-backward}
 use Rattle.network_words.proofs.Pairs.{pair-ordered, pair-first, pair-second, pair-outer, pair-from_edge}
 use Rattle.network_words.proofs.Refinements.{relation_between-same}
-use Rattle.edge_propagation.specs.Worklist.{Worklist, IsSized, edge_place, set_of, with_pair}
+use Rattle.edge_propagation.specs.Worklist.{Worklist, IsSized, IsQuiet, edge_place, set_of, with_pair}
 use Rattle.edge_propagation.specs.declared.span.Span.{Span}
 use Rattle.edge_propagation.specs.Propagation.{AreConverses, IsInStep, IsStep, AreClosed, IsSettled}
-use Rattle.closure_seq.specs.Paths.{IsInStepBut, IsQuiet}
+use Rattle.closure_seq.specs.Paths.{IsInStepBut}
 use Rattle.edge_propagation.proofs.Places.{same-cases, same-place, mark-kept, pair-from_place, edge_place-inside}
 use Rattle.edge_propagation.proofs.Steps.{with_pair-first, with_pair-second, with_pair-other, refined}
 use Rattle.edge_propagation.proofs.Settled.{popped, quiet-idle}
@@ -146,11 +145,6 @@ IsInStepBut-reset m n words work i j x z o b e s =
     }
 
 -- ---- one set of a closed network made smaller
-
-pub AreClosed-in_step : (m : Algebra) (n : ℕ) (words : List ℕ) (work : Worklist) → IsInStep m n words work → IsClosed m n words → AreClosed m work
-AreClosed-in_step m n words work s closed = λ i j k t'.
-    let t : IsProperTriple n i j k = subst (λ x. IsProperTriple x i j k) s.nodes t' in
-    rw (s.sets i k (pair-outer n i j k t), s.sets i j (pair-first n i j k t), s.sets j k (pair-second n i j k t)) (closed.each i j k t)
 
 -- where its edge is queued, each triple is settled
 pub IsSettled-refined : (m : Algebra) (work : Worklist) (i j x : ℕ) → AreConverses m work → IsSized work → IsProperPair work.nodes i j → IsWithin x (set_of work i j) → AreClosed m work → (rows : Span) → IsSettled m rows (refined m work i j x)

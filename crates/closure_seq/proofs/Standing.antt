@@ -1,5 +1,5 @@
 -- A worklist that stands beside levels, with a level begun and taken back.
-use Rattle.std.proofs.Common.{◌≡◌, ℕ, ◌<◌, ◌≤◌, List, [], ◌∷◌, ◌++◌, length, sym, ◌∙◌, ap, subst, arith, inl, inr}
+use Rattle.std.proofs.Common.{◌≡◌, ℕ, ◌<◌, List, [], ◌∷◌, ◌++◌, length, sym, ◌∙◌, ap, subst, arith, inl, inr}
 use Rattle.std.specs.Prelude.{slice_index, slice_set, All, Result, Ok, Err, OnOk}
 use Rattle.std.proofs.lemmas.List.{length-set}
 use Rattle.std.proofs.lemmas.List.Elements.{All-append, All-nil}
@@ -13,31 +13,19 @@ use Rattle.network_words.specs.Closure.{IsClosure}
 use Rattle.network_words.proofs.Networks.{relation_between-forward, set-cases}
 use Rattle.network_words.proofs.Pairs.{pair-ordered}
 use Rattle.network_words.proofs.Refinements.{IsNetwork-refines}
-use Rattle.edge_propagation.specs.Worklist.{Worklist, IsSized, set_of}
+use Rattle.edge_propagation.specs.Worklist.{Worklist, IsSized, IsQuiet, set_of}
 use Rattle.edge_propagation.specs.declared.span.Span.{Span}
 use Rattle.edge_propagation.specs.Propagation.{AreConverses, IsReady, IsInStep, IsRefinement, HasEmpty, AreClosed, IsSettled}
 use Rattle.closure_seq.specs.Levels.{LevelSets}
-use Rattle.closure_seq.specs.Paths.{IsInStepBut, IsQuiet, IsClosedNetwork, IsStanding, IsEmptyClosure}
+use Rattle.closure_seq.specs.Paths.{IsInStepBut, IsClosedNetwork, IsStanding, IsEmptyClosure}
 use Rattle.edge_propagation.specs.Propagation.{IsPlanes}
 use Rattle.edge_propagation.proofs.Steps.{refined}
 use Rattle.edge_propagation.proofs.Loads.{AreConverses-in_step}
 use Rattle.closure_seq.proofs.Closures.{IsClosure-stored, IsClosure-emptied}
 use Rattle.closure_seq.proofs.Trails.{All-last, All-init, All-cons, snoc-same}
-use Rattle.closure_seq.proofs.InStep.{IsInStep-put, IsInStep-quiet, IsInStepBut-refined, AreClosed-in_step, IsSettled-refined}
-
--- ---- numbers of planes
-
-pub planes-le : (planes : ℕ) → IsPlanes planes → planes ≤ 8
-planes-le planes p = elim p [
-  | inl e ↦ omega arith
-  | inr q ↦ elim q [ inl e ↦ omega arith | inr r ↦ elim r [ inl e ↦ omega arith | inr e ↦ omega arith ] ]
-]
-
-pub planes-eight : (planes : ℕ) → IsPlanes planes → ¬ (planes ≡ 1) → ¬ (planes ≡ 2) → ¬ (planes ≡ 4) → planes ≡ 8
-planes-eight planes p a b c = elim p [
-  | inl e ↦ absurd (a e)
-  | inr q ↦ elim q [ inl e ↦ absurd (b e) | inr r ↦ elim r [ inl e ↦ absurd (c e) | inr e ↦ e ] ]
-]
+use Rattle.edge_propagation.proofs.Loads.{AreClosed-in_step}
+use Rattle.edge_propagation.proofs.PlaneCounts.{planes-le}
+use Rattle.closure_seq.proofs.InStep.{IsInStep-put, IsInStep-quiet, IsInStepBut-refined, IsSettled-refined}
 
 -- ---- a level above another
 

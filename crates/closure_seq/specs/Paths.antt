@@ -8,7 +8,7 @@ use Rattle.network_words.specs.Network.{IsNetwork, relation_between}
 use Rattle.network_words.specs.Closure.{IsClosed, IsClosure}
 use Rattle.network_words.specs.declared.TheConstants.{MAX_NODES}
 use Rattle.compose_fast.specs.Planes.{AreBaseTables}
-use Rattle.edge_propagation.specs.Worklist.{Worklist, IsQueued, IsIdle, set_of}
+use Rattle.edge_propagation.specs.Worklist.{Worklist, IsQueued, IsQuiet, set_of}
 use Rattle.edge_propagation.specs.Propagation.{IsInStep, IsPlanes}
 use Rattle.closure_seq.specs.Levels.{LevelSets}
 
@@ -63,10 +63,6 @@ counted_below (suc k) words below = below ++ words ∷ replicate k (replicate (l
 pub record IsInStepBut (m : Algebra) (n : ℕ) (words : List ℕ) (work : Worklist) : Type 0 where
   pub nodes : work.nodes ≡ n
   pub sets : (i j : ℕ) → IsProperPair n i j → ¬ IsQueued work i j → set_of work i j ≡ relation_between m n words i j
-
--- no edge is queued
-abbrev pub IsQuiet : Worklist → Type 0
-IsQuiet work = (i : ℕ) → i < work.nodes → IsIdle work i
 
 -- closed networks, level above level, and a worklist with the sets of the top, of which no edge is queued
 pub record IsStanding (m : Algebra) (work : Worklist) (levels : LevelSets) (bases : List ℕ) : Type 0 where

@@ -1,8 +1,6 @@
 //! Algebraic closure of networks on one thread.
 //!
 //! - [`close`] and [`close_with`] turn a network into its closure.
-//! - [`SliceCopy`] closes a slice of the edges on a copy of the sets, for those who narrow words that others narrow
-//!   too.
 //! - [`ClosedPath`] is a path of closed networks for a search: it narrows an edge and closes again, and takes that
 //!   back.
 //!
@@ -16,16 +14,12 @@
 #![tactic(auto)]
 
 mod closing;
-mod copy;
 mod levels;
 mod narrowing;
 mod path;
-mod rows;
 mod work;
 
 pub use closing::{close, close_with};
-pub use copy::SliceCopy;
-pub use edge_propagation::{Note, Sweep};
 pub use levels::Change;
 pub use path::ClosedPath;
 pub use work::Work;

@@ -15,11 +15,11 @@ ghost use Rattle.calculus_table.specs.Composition.{full_of};
 ghost use Rattle.network_words.specs.Edge.{edge_count, edge_at};
 ghost use Rattle.network_words.specs.Closure.{IsClosure};
 ghost use Rattle.compose_fast.specs.Planes.{AreBaseTables};
-ghost use Rattle.edge_propagation.specs.Worklist.{Worklist, set_of, edge_place};
+ghost use Rattle.edge_propagation.specs.Worklist.{Worklist, IsQuiet, set_of, edge_place};
 ghost use Rattle.edge_propagation.specs.Propagation.{IsReady, IsInStep, IsRefinement, HasEmpty, AreClosed, IsSettled};
 ghost use Rattle.edge_propagation.specs.Propagation.{all_nodes};
 ghost use Rattle.closure_seq.specs.Levels.{LevelSets};
-ghost use Rattle.closure_seq.specs.Paths.{IsInStepBut, IsQuiet, IsStanding, IsEmptyClosure};
+ghost use Rattle.closure_seq.specs.Paths.{IsInStepBut, IsStanding, IsEmptyClosure};
 
 use crate::levels::Levels;
 use calculus_table::{Compose, Memory, Rel, lawful};

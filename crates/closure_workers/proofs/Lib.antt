@@ -1,1 +1,4 @@
+pub mod DealtSlices
+pub mod Looks
 pub mod OneRound
+pub mod Working

@@ -1,4 +1,6 @@
-pub mod Pieces
+pub mod Slices
+pub mod Workers
+pub mod Rounds
 pub use Rattle.calculus_table.specs.Rel
 pub use Rattle.calculus_table.specs.Algebra
 pub use Rattle.calculus_table.specs.Composition

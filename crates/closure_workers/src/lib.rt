@@ -1,13 +1,20 @@
 //! Algebraic closure by several workers at once.
 //!
 //! - [`close_parallel`] turns a network into its closure.
-//! - [`close_held`] does so at the cost of what became less since copies were made of a closed network.
-//! - [`close_slice`] and [`close_slice_with`] close some of the edges of a table that others narrow too.
+//! - [`close_slice`] closes some of the edges of a table that others narrow too.
+//! - [`desks`], [`deal`], [`work`], [`gather`] and [`close_table`] are its parts, for those who have others narrow the
+//!   words of the table too.
 #![tactic(auto)]
 
+mod news;
 mod pieces;
 mod rounds;
+mod slices;
+mod tuning;
+mod worker;
 
-pub use edge_slices::{Others, close_slice, close_slice_with};
-pub use pieces::{is_shared, slice_end};
-pub use rounds::{close_held, close_parallel};
+pub use news::News;
+pub use pieces::{deal, desks, gather, work};
+pub use rounds::{Workers, close_parallel, close_table};
+pub use slices::{Slice, close_slice};
+pub use worker::{Desk, Worker};

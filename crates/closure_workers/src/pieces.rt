@@ -1,414 +1,173 @@
-//! The pieces of a round, one for each worker, and what becomes of them.
+//! The parts of a closing by several workers: desks are made, a pass is dealt out to them, all work at once, and their
+//! passes are gathered.
 
-ghost use Rattle.std.specs.Prelude.{◌≡◌, ℕ, ◌+◌, ◌<◌, ◌≤◌, ◌^◌, true, [], IfOk};
-ghost use Rattle.std.specs.Prelude.{List, length, vec_len, slice_index_or, OnOk};
+ghost use Rattle.std.specs.Prelude.{◌≡◌, ℕ, ◌+◌, ◌*◌, ◌<◌, ◌≤◌, IfOk, length};
 ghost use Rattle.std.specs.List.{All};
 ghost use Rattle.calculus_table.specs.Algebra.{Algebra};
-ghost use Rattle.calculus_table.specs.Composition.{full_of};
 ghost use Rattle.network_words.specs.Edge.{edge_count};
+ghost use Rattle.network_words.specs.Network.{Refines};
 ghost use Rattle.network_words.specs.declared.TheConstants.{MAX_NODES};
-ghost use Rattle.network_words.specs.Network.{IsNetwork};
-ghost use Rattle.narrow_core.specs.Actor.{fresh};
+ghost use Rattle.narrow_core.specs.Actor.{giving};
 ghost use Rattle.edge_table.specs.Opening.{IsPassOf, algebra_of};
-ghost use Rattle.edge_slices.specs.Slices.{IsHeld};
-ghost use Rattle.closure_workers.specs.Pieces.{IsOpenedWith, IsTaskOf, IsPieceOf, IsBegunPiece, HasRun};
-ghost use Rattle.closure_workers.specs.Pieces.{IsDealt, AreDealt, AreHeld};
-ghost use Rattle.closure_workers.specs.Pieces.{IsBetween, HasSeen};
+ghost use Rattle.closure_workers.specs.Workers.{IsDesk, IsSeenDesk, AreDealt, slices_of, slices_at};
+ghost use Rattle.closure_workers.specs.Workers.{IsWorker, IsFreshWorker, HasWorked, HasEnded, HaveWorked};
 
-use calculus_table::{Compose, Memory, Rel};
-use closure_seq::SliceCopy;
-use edge_slices::{Others, close_free_rows, close_slice_with};
+use crate::news::{Heard, News};
+use crate::slices::{Slice, slice_end};
+use crate::worker::{Desk, Site, Worker};
+use calculus_table::{Compose, Memory};
 use edge_table::{OpenNet, Pass, Snapshot};
-use network_words::{Net, edge_between};
 use qsr_outside::Gate;
+use slice_copy::SliceCopy;
 use std::alloc::Global;
+use std::thread;
+use std::thread::Threads;
 
-/// What one worker is given for a round: a pass, the copy that it held in the round before, with its slice of the
-/// edges, and how often it reads the words before it ends. Without a copy it has no slice until it has taken free rows.
-#[derive(Drop)]
-pub(crate) struct Task {
-    pub(crate) pass: Pass,
-    pub(crate) from: u32,
-    pub(crate) to: u32,
-    pub(crate) number: u32,
-    pub(crate) held: Option<SliceCopy>,
-    pub(crate) times: u32,
-}
-
-/// What one worker has in a round: what it was given, and the words that it has seen.
-#[derive(Drop)]
-pub(crate) struct Piece {
-    pub(crate) pass: Pass,
-    pub(crate) snap: Snapshot,
-    pub(crate) from: u32,
-    pub(crate) to: u32,
-    pub(crate) held: Option<SliceCopy>,
-    pub(crate) times: u32,
-}
-
-/// How often a worker among others reads the words in vain before it ends, even if they have something to look at.
-const TIMES: u32 = 1_000;
-
-/// The least number of nodes whose edges are shared out, times the square of that of base relations.
-const SHARED: u64 = 500_000;
-
-/// Whether it pays to share the edges among so many nodes out among workers, over a calculus of so many base relations,
-/// whatever is stated. Each worker takes every edge that becomes smaller off a queue of its own, and composes again
-/// what it found. So sharing pays only where looking along an edge takes long: where the rows are long, and composing
-/// one takes long, which grows with the square of the number of base relations.
-pub fn is_shared(nodes: u32, size: u32) -> bool {
-    let size = u64::from(size);
-    u64::from(nodes).saturating_mul(size.saturating_mul(size)) >= SHARED
-}
-
-/// The least work that is shared out, as `is_work_shared` counts it: that of 250 nodes over 8 base relations, or of 125
-/// over 64.
-const SHARED_WORK: u64 = 125_000_000;
-
-/// Whether most edges are stated, by every sixteenth of them.
-fn are_stated(words: &[u64], full: Rel) -> bool {
-    let mut stated: u32 = 0;
-    let mut left: u32 = 0;
-    for word in words.iter().step_by(16) {
-        if *word == full.word() {
-            left = left.wrapping_add(1);
-        } else {
-            stated = stated.wrapping_add(1);
-        }
-    }
-    stated > left
-}
-
-/// Whether sets have five eighths of so many base relations, or fewer, in the mean of every sixteenth of them. Larger
-/// ones become less again and again, and workers look along one in vain as long as they don't know of that.
-fn are_small(words: &[u64], size: u32) -> bool {
-    let mut found: u64 = 0;
-    let mut few: u64 = 0;
-    for word in words.iter().step_by(16) {
-        found = found.wrapping_add(8 * u64::from(word.count_ones()));
-        few = few.wrapping_add(5 * u64::from(size));
-    }
-    found <= few
-}
-
-/// Whether it pays to share the edges of a network out: where most of them are stated, by small sets, so that the
-/// workers sweep rows and take few edges off their queues, and where there is work enough. That grows with the cube of
-/// the number of nodes, and with the number of base relations.
-pub(crate) fn is_work_shared<C: Compose>(net: &Net, c: &C) -> bool {
-    let nodes = u64::from(net.nodes());
-    let triples = nodes.saturating_mul(nodes).saturating_mul(nodes);
-    triples.saturating_mul(u64::from(c.size())) >= SHARED_WORK
-        && are_stated(net.words(), c.full())
-        && are_small(net.words(), c.size())
-}
-
-/// What sweeping the rows before `i` takes, in thirty-seconds of a block of 16 nodes: a row has a block for each 16
-/// greater nodes, and takes four blocks beside them.
-fn cost_before(nodes: u32, i: u32) -> u32
-    requires few { nodes ≤ MAX_NODES }
-    requires row { i ≤ nodes }
+/// Desks for so many workers, from 1 to 64, over which the edges among so many nodes are dealt out: each has some, where
+/// there are as many.
+pub fn desks(alloc: Global, nodes: u32, count: u32) -> Result<Vec<Desk>, Memory>
+    requires nodes { 0 < nodes }
+    requires bounded { nodes ≤ MAX_NODES }
+    requires some { 0 < count }
+    requires few { count ≤ 64 }
+    ensures desks { IfOk result (λ desks. (m : Algebra) → All (IsDesk m nodes) desks.items) }
+    ensures dealt { IfOk result (λ desks. AreDealt (slices_of desks.items) (edge_count nodes)) }
+    ensures some { count ≤ edge_count nodes → IfOk result (λ desks.
+        All (λ desk. desk.slice.from < desk.slice.to) desks.items) }
+    ensures count { IfOk result (λ desks. length desks.items ≡ count) }
 {
-    i * (128 + 2 * nodes - i)
-}
-
-/// Where a slice ends that begins at the edge `from`, where so many workers are left for the edges from there on: at
-/// the end of the first row by which it has its part of the work.
-pub fn slice_end(nodes: u32, edges: u32, from: u32, left: u32) -> u32
-    requires few { nodes ≤ MAX_NODES }
-    requires some { 0 < left }
-    requires below { from ≤ edges }
-    ensures order { from ≤ result }
-    ensures below { result ≤ edges }
-    ensures last { left ≡ 1 → result ≡ edges }
-{
-    if left == 1 || nodes < 2 {
-        return edges;
+    let edges = nodes * (nodes - 1) / 2;
+    let mut desks = Vec::new(alloc);
+    let mut from = 0;
+    for number in 0..count {
+        let to = slice_end(nodes, edges, from, count - number);
+        let desk = Desk {
+            number,
+            slice: Slice { from, to },
+            snap: Snapshot::new(alloc, edges)?,
+            copy: SliceCopy::new(alloc, nodes)?,
+            is_settled: false,
+        };
+        let Ok(()) = desks.push(desk) else {
+            return Err(Memory);
+        };
+        from = to;
     }
-    let all = cost_before(nodes, nodes);
-    let mut begin = 0;
-    for i in 0..nodes - 1 {
-        let end = edge_between(nodes, i, nodes - 1).saturating_add(1);
-        let cost = cost_before(nodes, i + 1);
-        if end <= from {
-            begin = cost;
-        } else if cost.saturating_sub(begin) >= all.saturating_sub(begin) / left {
-            return end.min(edges).max(from);
-        }
-    }
-    edges
+    Ok(desks)
 }
 
-/// The slice of a copy that is held, whose rows the others then leave to it. Without one there is none.
-fn kept_slice(held: &Option<SliceCopy>, nodes: u32, edges: u32, others: &Others) -> (u32, u32)
-    ensures order { result.0 ≤ result.1 }
-    ensures below { result.1 ≤ edges }
-{
-    let Some(copy) = held else {
-        return (0, 0);
-    };
-    let (first, end) = copy.rows();
-    others.keep_rows(first, end, nodes.saturating_sub(1));
-    let (from, to) = copy.slice();
-    let to = to.min(edges);
-    (from.min(to), to)
-}
-
-/// What the worker of this number among so many is given, with the slice of the copy that is held.
-fn task_of(
-    table: &OpenNet,
-    pass: Pass,
-    edges: u32,
-    number: u32,
-    count: u32,
-    held: Option<SliceCopy>,
-    others: &Others,
-) -> Task
-    requires pass { IsPassOf table.now pass }
-    requires actor { pass.actor ≡ fresh 1 table.now.opening.words }
-    requires edges { edges ≡ edge_count table.now.opening.nodes }
-    requires few { number < 2 ^ 31 }
-    requires held { IsHeld (algebra_of table.now.opening) held }
-    ensures task { IsTaskOf table.now result }
-{
-    let (from, to) = kept_slice(&held, table.nodes(), edges, others);
-    let times = if count > 1 { TIMES } else { 0 };
-    Task {
-        pass,
-        from,
-        to,
-        number,
-        held,
-        times,
-    }
-}
-
-/// The copy that was left last, if there is one.
-fn next_held(helds: &mut Vec<Option<SliceCopy>>) -> Option<SliceCopy>
-    ensures held { (m : Algebra) → AreHeld m helds.old.items → IsHeld m result }
-    ensures rest { (m : Algebra) → AreHeld m helds.old.items → AreHeld m helds.new.items }
-{
-    match helds.pop() {
-        Some(held) => held,
-        None => None,
-    }
-}
-
-/// So many tasks, each with a part of the pass and a copy, if one is left. Returns what is left of the pass.
-pub(crate) fn deal(
+/// A worker for each desk, with one part of the weight. Returns what is left of the pass, too.
+pub fn deal(
     alloc: Global,
     table: &OpenNet,
     pass: Pass,
-    edges: u32,
-    count: u32,
-    helds: &mut Vec<Option<SliceCopy>>,
-    others: &Others,
-) -> Result<(Pass, Vec<Task>), Memory>
+    mut desks: Vec<Desk>,
+) -> Result<(Pass, Vec<Worker>), Memory>
     requires pass { IsPassOf table.now pass }
-    requires actor { pass.actor ≡ fresh (count + 1) table.now.opening.words }
-    requires edges { edges ≡ edge_count table.now.opening.nodes }
-    requires few { count < 2 ^ 31 }
-    requires held { AreHeld (algebra_of table.now.opening) helds.old.items }
+    requires enough { length desks.items < pass.actor.weight }
+    requires desks { All (IsDesk (algebra_of table.now.opening) table.now.opening.nodes) desks.items }
     ensures pass { IfOk result (λ r. IsPassOf table.now r.0) }
-    ensures actor { IfOk result (λ r. r.0.actor ≡ fresh 1 table.now.opening.words) }
-    ensures tasks { IfOk result (λ r. All (IsTaskOf table.now) r.1.items) }
-    ensures count { IfOk result (λ r. length r.1.items ≡ count) }
-    ensures held { IfOk result (λ _. AreHeld (algebra_of table.now.opening) helds.new.items) }
+    ensures rest { IfOk result (λ r.
+        r.0 ≡ record pass { actor = giving (length desks.items) pass.actor }) }
+    ensures workers { IfOk result (λ r. All (IsFreshWorker table.now pass.actor.seen) r.1.items) }
+    ensures dealt { IfOk result (λ r. (edges : ℕ) → AreDealt (slices_of desks.items) edges
+        → AreDealt (slices_at r.1.items) edges) }
+    ensures count { IfOk result (λ r. length r.1.items ≡ length desks.items) }
 {
-    let mut tasks = Vec::new(alloc);
+    let mut workers = Vec::new(alloc);
     let mut rest = pass;
-    for number in 0..count {
-        let (kept, given) = table.split(rest, 1);
+    while let Some(desk) = desks.pop() {
+        let (kept, pass) = table.split(rest, 1);
         rest = kept;
-        let held = next_held(helds);
-        let task = task_of(table, given, edges, number, count, held, others);
-        let Ok(()) = tasks.push(task) else {
+        let worker = Worker {
+            pass,
+            desk,
+            heard: Heard::nothing(),
+            narrowed: 0,
+        };
+        let Ok(()) = workers.push(worker) else {
             return Err(Memory);
         };
     }
-    Ok((rest, tasks))
+    Ok((rest, workers))
 }
 
-/// The piece of a worker on a table that was opened with these words, which it copies itself.
-fn piece_of(alloc: Global, table: &OpenNet, words: &[u64], task: Task) -> Result<Piece, Memory>
-    requires opening { words.now ≡ table.now.opening.words }
-    requires task { IsTaskOf table.now task }
-    ensures { IfOk result (λ piece. IsBegunPiece table.now piece) }
-{
-    let snap = Snapshot::of(alloc, words)?;
-    let Task {
-        pass,
-        from,
-        to,
-        number: _,
-        held,
-        times,
-    } = task;
-    Ok(Piece {
-        pass,
-        snap,
-        from,
-        to,
-        held,
-        times,
-    })
-}
-
-/// Closes the edges of free rows, which are the slice of the piece then, or the slice of the copy that it holds. The
-/// room is made here, so that each worker makes its own; where there is no memory for it the worker takes no rows, as
-/// where none is free when it begins.
-fn close_piece<C: Compose>(
-    alloc: Global,
+/// Has a worker close its slice, between its two points of the gate: that of its number, and 1000 more.
+fn work_between<C: Compose, G: Gate>(
     table: &OpenNet,
-    c: &C,
-    others: &Others,
-    mut piece: Piece,
-) -> Piece
-    requires calculus { C.algebra c.now ≡ algebra_of table.now.opening }
-    requires piece { IsBegunPiece table.now piece }
-    requires network { IsNetwork (C.algebra c.now) table.now.opening.nodes piece.snap }
-    ensures { HasRun (C.algebra c.now) table.now result }
-{
-    if piece.held.is_some() {
-        close_slice_with(
-            table,
-            &mut piece.pass,
-            c,
-            &mut piece.snap,
-            &mut piece.held,
-            piece.from,
-            piece.to,
-            piece.times,
-            others,
-        );
-        return piece;
-    }
-    if others.have_free_rows(table.nodes() - 1) {
-        piece.snap.make_room(alloc, table.nodes());
-    }
-    let (from, to) = close_free_rows(
-        table,
-        &mut piece.pass,
-        c,
-        &mut piece.snap,
-        &mut piece.held,
-        piece.times,
-        others,
-    );
-    piece.from = from;
-    piece.to = to;
-    piece
-}
-
-/// Does the work of a task on a table that was opened with these words, between the two points of the gate.
-pub(crate) fn run_task<C: Compose, G: Gate>(
-    alloc: Global,
-    table: &OpenNet,
-    words: &[u64],
     c: &C,
     gate: &G,
-    others: &Others,
-    task: Task,
-) -> Result<Piece, Memory>
-    requires opened { IsOpenedWith (C.algebra c.now) table.now words.now }
-    requires task { IsTaskOf table.now task }
-    ensures { IfOk result (λ piece. HasRun (C.algebra c.now) table.now piece) }
+    news: &News,
+    worker: &mut Worker,
+)
+    requires calculus { C.algebra c.now ≡ algebra_of table.now.opening }
+    requires worker { IsWorker table.now worker.old }
+    ensures { HasWorked table.now worker.old worker.new }
 {
-    let number = task.number;
+    let number = worker.desk.number;
     gate.pass(number);
-    others.come_back();
-    let done = match piece_of(alloc, table, words, task) {
-        Ok(piece) => Ok(close_piece(alloc, table, c, others, piece)),
-        Err(Memory) => {
-            others.leave();
-            Err(Memory)
-        }
-    };
+    worker.close(&Site { table, c, news });
     gate.pass(1000 + number);
-    done
 }
 
-/// The greatest end of the slices that have the edge `from`, or `from` itself where none has it.
-fn next_end(pieces: &[Piece], from: u32) -> u32
-    ensures order { from ≤ result }
-    ensures dealt { (e : ℕ) → from ≤ e → e < result → IsDealt pieces.now e }
+/// Has all workers close their slices at once, each in a thread of its own and between its two points of the gate: that
+/// of its number as it begins, and 1000 more as it ends. Returns the workers. Takes no memory.
+pub fn work<R: Threads + Sync, C: Compose + Sync, G: Gate + Sync>(
+    rt: &R,
+    table: &OpenNet,
+    c: &C,
+    gate: &G,
+    news: &News,
+    mut workers: Vec<Worker>,
+) -> Vec<Worker>
+    requires calculus { C.algebra c.now ≡ algebra_of table.now.opening }
+    requires some { 0 < length workers.items }
+    requires workers { All (IsWorker table.now) workers.items }
+    ensures { HaveWorked table.now workers.items result.items }
 {
-    let mut end = from;
-    for piece in pieces {
-        if piece.from <= from && end < piece.to {
-            end = piece.to;
-        }
-    }
-    end
+    let run = |_: usize, worker: &mut Worker|
+        requires { (C.algebra c.now ≡ algebra_of table.now.opening) × IsWorker table.now worker.old }
+        ensures { HasWorked table.entry.now worker.old worker.new }
+    { work_between(table, c, gate, news, worker) };
+    let threads = workers.len();
+    thread::for_each_mut(rt, workers.as_mut_slice(), threads, &run);
+    workers
 }
 
-/// Whether each of so many edges lies in the slice of one of the pieces.
-pub(crate) fn are_dealt(pieces: &[Piece], edges: u32) -> bool
-    ensures { result ≡ true → AreDealt pieces.now edges }
-{
-    let mut from = 0;
-    while from < edges {
-        let end = next_end(pieces, from);
-        if end == from {
-            return false;
-        }
-        from = end;
-    }
-    true
-}
-
-/// Keeps the snapshot of a slice, if that has edges.
-fn keep_snap(snaps: &mut Vec<Snapshot>, snap: Snapshot, from: u32, to: u32) -> Result<(), Memory>
-    ensures between { OnOk result ((low high : List ℕ) → All (IsBetween low high) snaps.old.items
-        → IsBetween low high snap → All (IsBetween low high) snaps.new.items) }
-    ensures each { OnOk result ((words : List ℕ) → All (λ s. s ≡ words) snaps.new.items
-        → All (λ s. s ≡ words) snaps.old.items × (from < to → snap ≡ words)) }
-{
-    if from >= to {
-        return Ok(());
-    }
-    snaps.push(snap).map_err(|_| Memory)
-}
-
-/// Joins the passes of the pieces to `home`, and keeps the snapshots of slices with edges and the copies, those of the
-/// last piece first.
-pub(crate) fn gather(
+/// Joins the passes of the workers to `home`. Returns their desks, too.
+pub fn gather(
     alloc: Global,
     table: &OpenNet,
     home: Pass,
-    mut pieces: Vec<Piece>,
-    helds: &mut Vec<Option<SliceCopy>>,
-) -> Result<(Pass, Vec<Snapshot>), Memory>
+    mut workers: Vec<Worker>,
+) -> Result<(Pass, Vec<Desk>), Memory>
     requires home { IsPassOf table.now home }
-    requires weight { home.actor.weight ≡ 1 }
-    requires facts { home.actor.mine ≡ [] }
-    requires pieces { All (IsPieceOf table.now) pieces.items }
-    requires opening { length table.now.opening.words ≡ edge_count table.now.opening.nodes }
-    requires seen { All (λ piece. piece.snap ≡ piece.pass.actor.seen) pieces.items }
-    requires held { AreHeld (algebra_of table.now.opening) helds.old.items }
+    requires workers { All (HasEnded table.now home.actor.seen) workers.items }
     ensures pass { IfOk result (λ r. IsPassOf table.now r.0) }
-    ensures weight { IfOk result (λ r. r.0.actor.weight ≡ length pieces.items + 1) }
-    ensures facts { IfOk result (λ r. r.0.actor.mine ≡ []) }
-    ensures between { IfOk result (λ r. All (IsBetween r.0.actor.seen table.now.opening.words) r.1.items) }
-    ensures each { IfOk result (λ r. (words : List ℕ) → All (λ s. s ≡ words) r.1.items
-        → All (HasSeen words) pieces.items) }
-    ensures held { IfOk result (λ _. AreHeld (algebra_of table.now.opening) helds.new.items) }
+    ensures weight { IfOk result (λ r.
+        r.0.actor.weight ≡ home.actor.weight + length workers.items) }
+    ensures facts { IfOk result (λ r. r.0.actor.mine ≡ home.actor.mine) }
+    ensures loads { IfOk result (λ r. home.loads
+        + length workers.items * edge_count table.now.opening.nodes ≤ r.0.loads) }
+    ensures within { IfOk result (λ r. Refines r.0.actor.seen home.actor.seen) }
+    ensures desks { IfOk result (λ r. All (IsSeenDesk table.now r.0.actor.seen home.actor.seen) r.1.items) }
+    ensures dealt { IfOk result (λ r. (edges : ℕ) → AreDealt (slices_at workers.items) edges
+        → AreDealt (slices_of r.1.items) edges) }
+    ensures count { IfOk result (λ r. length r.1.items ≡ length workers.items) }
 {
-    let mut snaps = Vec::new(alloc);
+    let mut desks = Vec::new(alloc);
     let mut all = home;
-    while let Some(piece) = pieces.pop() {
-        let Piece {
+    while let Some(worker) = workers.pop() {
+        let Worker {
             pass,
-            snap,
-            from,
-            to,
-            held,
-            times: _,
-        } = piece;
+            desk,
+            heard: _,
+            narrowed: _,
+        } = worker;
         all = table.join(all, pass);
-        keep_snap(&mut snaps, snap, from, to)?;
-        let Ok(()) = helds.push(held) else {
+        let Ok(()) = desks.push(desk) else {
             return Err(Memory);
         };
     }
-    Ok((all, snaps))
+    Ok((all, desks))
 }

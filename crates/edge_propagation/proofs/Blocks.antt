@@ -11,8 +11,8 @@ use Rattle.compose_fast.specs.Planes.{AreTablesOf, IsWithinAlong}
 use Rattle.compose_fast.proofs.Clear.{within_along}
 use Rattle.edge_propagation.specs.Worklist.{Worklist, IsQueued, AreBytesOf, set_of}
 use Rattle.edge_propagation.specs.declared.span.Span.{Span}
-use Rattle.edge_propagation.specs.Propagation.{IsReady, IsStep, IsAmong, IsSettledAt}
-use Rattle.edge_propagation.proofs.Steps.{IsStep-trans}
+use Rattle.edge_propagation.specs.Propagation.{IsReady, IsStep, EmptiesNone, IsAmong, IsSettledAt}
+use Rattle.edge_propagation.proofs.Steps.{IsStep-trans, EmptiesNone-trans}
 use Rattle.edge_propagation.proofs.Settled.{IsSettledAt-step}
 
 -- a lane that is clear tells that its triple is closed, unless the set of (i, j) changed meanwhile
@@ -37,12 +37,14 @@ settled-clear m planes work set bytes i j from here there l a r b tables here-is
 
 pub record AreLanesDone (m : Algebra) (span : Span) (old new : Worklist) (i j from left : ℕ) : Type 0 where
   pub step : IsStep m old new
+  pub none : EmptiesNone old new
   pub settled : (l : ℕ) → l < 16 → ¬ Has left l → IsProperTriple old.nodes i j (from + l) → IsAmong span (from + l) → IsSettledAt m new i j (from + l)
 
-pub AreLanesDone-step : (m : Algebra) (span : Span) (a b c : Worklist) (i j from left lane rest : ℕ) → AreLanesDone m span a b i j from left → IsWithout left lane rest → IsStep m b c →
+pub AreLanesDone-step : (m : Algebra) (span : Span) (a b c : Worklist) (i j from left lane rest : ℕ) → AreLanesDone m span a b i j from left → IsWithout left lane rest → IsStep m b c → EmptiesNone b c →
     (IsProperTriple b.nodes i j (from + lane) → IsAmong span (from + lane) → IsSettledAt m c i j (from + lane)) → AreLanesDone m span a c i j from rest
-AreLanesDone-step m span a b c i j from left lane rest p out q h = record {
+AreLanesDone-step m span a b c i j from left lane rest p out q some h = record {
   step = IsStep-trans m a b c p.step q;
+  none = EmptiesNone-trans m a b c p.step p.none some;
   settled = λ l small none t among.
       let t' : IsProperTriple b.nodes i j (from + l) = subst (λ n. IsProperTriple n i j (from + l)) (sym p.step.nodes) t in
       elim (cases_eq l lane) [
@@ -56,12 +58,14 @@ AreLanesDone-step m span a b c i j from left lane rest p out q h = record {
 -- the pairs (i, q) with q in the range and below k were narrowed along j
 pub record IsPropagated (m : Algebra) (span : Span) (old new : Worklist) (i j k : ℕ) : Type 0 where
   pub step : IsStep m old new
+  pub none : EmptiesNone old new
   pub settled : (q : ℕ) → q < k → IsProperTriple old.nodes i j q → IsAmong span q → IsSettledAt m new i j q
 
-pub IsPropagated-block : (m : Algebra) (span : Span) (a b c : Worklist) (i j block : ℕ) → IsPropagated m span a b i j (16 * block) → IsStep m b c →
+pub IsPropagated-block : (m : Algebra) (span : Span) (a b c : Worklist) (i j block : ℕ) → IsPropagated m span a b i j (16 * block) → IsStep m b c → EmptiesNone b c →
     ((l : ℕ) → l < 16 → IsProperTriple b.nodes i j (16 * block + l) → IsAmong span (16 * block + l) → IsSettledAt m c i j (16 * block + l)) → IsPropagated m span a c i j (16 * (block + 1))
-IsPropagated-block m span a b c i j block p q h = record {
+IsPropagated-block m span a b c i j block p q some h = record {
   step = IsStep-trans m a b c p.step q;
+  none = EmptiesNone-trans m a b c p.step p.none some;
   settled = λ d l t among.
       let t' : IsProperTriple b.nodes i j d = subst (λ n. IsProperTriple n i j d) (sym p.step.nodes) t in
       elim (cases_lt d (16 * block)) [

@@ -8,3 +8,5 @@ pub mod Sweeps
 pub mod Blocks
 pub mod Loads
 pub mod FullSets
+pub mod PlaneCounts
+pub mod EdgeRows

@@ -6,13 +6,14 @@ use Rattle.std.proofs.lemmas.List.{length-set, get_or-set_same, get_or-set_other
 use Rattle.calculus_table.specs.Algebra.{Algebra}
 use Rattle.calculus_table.specs.Composition.{converse}
 use Rattle.calculus_table.specs.Calculus.{IsCalculus}
-use Rattle.network_words.specs.Edge.{edge_count, edge_at, IsProperPair, IsSamePair}
+use Rattle.network_words.specs.Edge.{edge_count, edge_at, IsProperPair, IsProperTriple, IsSamePair}
+use Rattle.network_words.specs.Closure.{IsClosed}
 use Rattle.network_words.specs.Network.{Network, IsNetwork, relation_between}
 use Rattle.network_words.proofs.Edges.{edge_at-lt, edge_at-first, edge_at-second}
 use Rattle.network_words.proofs.Networks.{relation_between-forward, relation_between-backward, relation_between-within, relation_between-converse}
-use Rattle.network_words.proofs.Pairs.{pair-ordered, pair-swap}
+use Rattle.network_words.proofs.Pairs.{pair-ordered, pair-swap, pair-first, pair-second, pair-outer}
 use Rattle.edge_propagation.specs.Worklist.{Worklist, IsSized, set_of, with_pair}
-use Rattle.edge_propagation.specs.Propagation.{AreConverses, IsInStep, IsPairLoaded, IsLoaded, IsStored}
+use Rattle.edge_propagation.specs.Propagation.{AreConverses, IsInStep, AreClosed, IsPairLoaded, IsLoaded, IsStored}
 use Rattle.edge_propagation.proofs.Steps.{with_pair-first, with_pair-second, with_pair-other}
 
 -- ---- loading
@@ -93,6 +94,12 @@ AreConverses-in_step m n words work c net s =
       within = λ i j p. rw (s.sets i j (pair i j p)) (relation_between-within m n words i j c.table net);
       converse = λ i j p. s.sets j i (pair-swap n i j (pair i j p)) ∙ relation_between-converse m n words i j c net p.differ ∙ ap (converse m) (sym (s.sets i j (pair i j p)));
     }
+
+-- those of a closed network are closed
+pub AreClosed-in_step : (m : Algebra) (n : ℕ) (words : List ℕ) (work : Worklist) → IsInStep m n words work → IsClosed m n words → AreClosed m work
+AreClosed-in_step m n words work s closed = λ i j k t'.
+    let t : IsProperTriple n i j k = subst (λ x. IsProperTriple x i j k) s.nodes t' in
+    rw (s.sets i k (pair-outer n i j k t), s.sets i j (pair-first n i j k t), s.sets j k (pair-second n i j k t)) (closed.each i j k t)
 
 -- what is queued plays no part in the sets
 pub IsInStep-queue : (m : Algebra) (n : ℕ) (words : List ℕ) (old new : Worklist) → new ≡ record old { queued = new.queued } → IsInStep m n words old → IsInStep m n words new

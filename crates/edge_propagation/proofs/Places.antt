@@ -1,10 +1,10 @@
 -- The places of pairs and of edges.
-use Rattle.std.proofs.Common.{◌≡◌, ◌≢◌, ℕ, ◌+◌, ◌*◌, zero, suc, ◌<◌, ◌≤◌, Bool, true, false, cond, List, length, get_or, set, replicate, count_by, refl, sym, ◌∙◌, ap, subst, arith, ◌⊎◌, inl, inr}
+use Rattle.std.proofs.Common.{◌≡◌, ◌≢◌, ℕ, ◌+◌, ◌*◌, ◌/◌, ◌%◌, zero, suc, ◌<◌, ◌≤◌, Bool, true, false, cond, List, [], ◌∷◌, length, get_or, set, replicate, count_by, refl, sym, ◌∙◌, ap, subst, arith, ◌⊎◌, inl, inr}
 use Rattle.std.proofs.lemmas.Bool.{cases_lt, cases_eq, lt-ltb, le-ltb, false≢true}
 use Rattle.std.proofs.lemmas.List.{get_or-set_same, get_or-set_other, get_or-replicate, length-replicate, get_or_past}
 use Rattle.std.proofs.lemmas.List.Sums.{sum_by-set, sum_by-cons}
 use Rattle.network_words.specs.Edge.{IsProperPair, IsSamePair}
-use Rattle.edge_propagation.specs.Worklist.{Worklist, IsQueued, IsWaiting, edge_place}
+use Rattle.edge_propagation.specs.Worklist.{Worklist, IsQueued, IsWaiting, IsQuiet, AreEdgeMarks, edge_place}
 
 -- ---- places of edges
 
@@ -85,3 +85,23 @@ IsQueued-swap work i j d h = subst (λ e. get_or work.queued e false ≡ true) (
 
 pub waiting-pair : (work : Worklist) (i j : ℕ) → IsWaiting work i j → IsProperPair work.nodes i j
 waiting-pair work i j w = record { first_below = omega (arith, w.order, w.below); second_below = w.below; differ = λ e. absurd (omega (arith, w.order)) }
+
+-- ---- no mark
+
+pub unmarked : (xs : List Bool) (e : ℕ) → count_by (λ b. b) xs ≡ 0 → ¬ (get_or xs e false ≡ true)
+unmarked xs e none at = elim (cases_lt e (length xs)) as (λ _. ⊥) [
+  | inl l ↦ absurd (omega (arith, none, count-cleared xs e l at))
+  | inr g ↦ false≢true (sym (get_or_past xs e false g) ∙ at)
+]
+
+pub count-unmarked : (xs : List Bool) → ((e : ℕ) → ¬ (get_or xs e false ≡ true)) → count_by (λ b. b) xs ≡ 0
+count-unmarked [] h = refl
+count-unmarked (true ∷ xs) h = absurd (h 0 refl)
+count-unmarked (false ∷ xs) h = omega (arith, sum_by-cons (λ (b : Bool). cond b 1 0) false xs, count-unmarked xs (λ e. h (suc e)))
+
+-- where no edge is queued there is none
+pub count-quiet : (work : Worklist) → AreEdgeMarks work → IsQuiet work → count_by (λ b. b) work.queued ≡ 0
+count-quiet work marks quiet = count-unmarked work.queued (λ e at.
+    let p = marks e at in
+    let place : edge_place (e / 256) (e % 256) ≡ e = edge_place-forward (e / 256) (e % 256) p.0 ∙ (omega arith) in
+    quiet (e / 256) (omega (arith, p.0, p.1)) (e % 256) p.0 p.1 (subst (λ d. get_or work.queued d false ≡ true) (sym place) at))

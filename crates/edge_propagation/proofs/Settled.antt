@@ -1,5 +1,5 @@
 -- Each triple that isn't closed has a source edge that is queued.
-use Rattle.std.proofs.Common.{◌≡◌, ◌≢◌, ℕ, ◌<◌, ◌⊎◌, Bool, false, List, length, sym, ◌∙◌, subst, arith, inl, inr}
+use Rattle.std.proofs.Common.{◌≡◌, ◌≢◌, ℕ, ◌-◌, ◌<◌, ◌⊎◌, Bool, false, List, length, sym, ◌∙◌, subst, arith, inl, inr}
 use Rattle.std.specs.Prelude.{bit_and, slice_set}
 use Rattle.std.proofs.lemmas.Bool.{cases_lt}
 use Rattle.calculus_table.specs.Rel.{IsWithin}
@@ -12,10 +12,10 @@ use Rattle.network_words.specs.Edge.{IsProperPair, IsProperTriple, IsSamePair}
 use Rattle.network_words.proofs.Pairs.{pair-first, pair-second, pair-outer, triple-swap}
 use Rattle.edge_propagation.specs.Worklist.{Worklist, IsSized, IsQueued, IsIdle, edge_place, set_of, work_left}
 use Rattle.edge_propagation.specs.declared.span.Span.{Span}
-use Rattle.edge_propagation.specs.Propagation.{AreConverses, IsReady, IsStep, HasEmpty, IsClosedAlong, AreClosed, AreRowsClosed, IsSettledAt, IsSettled, AreRowsSettled, IsSettledBut, IsCharged, all_nodes}
+use Rattle.edge_propagation.specs.Propagation.{AreConverses, IsReady, IsStep, HasEmpty, EmptiesNone, IsClosedAlong, AreClosed, AreRowsClosed, IsSettledAt, IsSettled, AreRowsSettled, IsSettledBut, IsCharged, all_nodes}
 use Rattle.edge_propagation.proofs.Places.{edge_place-inside, same-cases, mark-kept, count-cleared, IsQueued-swap, pair-from_place}
 use Rattle.edge_propagation.specs.Propagation.{IsMet}
-use Rattle.edge_propagation.proofs.Steps.{refined, IsMet-step, IsStep-refined, refined-first, refined-other}
+use Rattle.edge_propagation.proofs.Steps.{refined, IsMet-step, IsStep-refined, IsStep-room, EmptiesNone-refined, refined-first, refined-other}
 
 -- ---- one triple narrowed
 
@@ -43,6 +43,10 @@ module _ (m : Algebra) (work : Worklist) (i j k a : ℕ) (c : IsCalculus m) (s :
       )
       (IsWithin-meet_r (set_of work i k) (composition m a (set_of work j k)))
 
+-- the worklist in which the set of (i, k) is x, its edge is queued, and that is noted
+abbrev pub noted : Algebra → Worklist → ℕ → ℕ → ℕ → Worklist
+noted m work i k x = record (refined m work i k x) { room = work.room - 1 }
+
 -- the same by what was read and computed
 module _ (m : Algebra) (work new : Worklist) (i j k a x : ℕ) (c : IsCalculus m) (s : AreConverses m work) (z : IsSized work) (t : IsProperTriple work.nodes i j k)
     (aw : IsWithin (set_of work i j) a) (set-is : ¬ IsQueued work i j → a ≡ set_of work i j)
@@ -52,18 +56,23 @@ module _ (m : Algebra) (work new : Worklist) (i j k a x : ℕ) (c : IsCalculus m
   settled-same same = λ quiet _.
       subst (λ b. IsWithin (set_of work i k) (composition m b (set_of work j k))) (set-is quiet) (within-meet _ _ (sym e ∙ same))
 
-  pub step-read : new ≡ refined m work i k x → x ≢ set_of work i k → IsStep m work new
-  step-read stored ne = rw (stored, e) (IsStep-narrowed m work i j k a c s z t aw (λ h. ne (e ∙ h)))
+  pub step-read : new ≡ noted m work i k x → x ≢ set_of work i k → IsStep m work new
+  step-read stored ne = rw (stored, e) (IsStep-room m work _ (work.room - 1) (IsStep-narrowed m work i j k a c s z t aw (λ h. ne (e ∙ h))))
 
-  pub settled-read : new ≡ refined m work i k x → x ≢ set_of work i k → IsSettledAt m new i j k
+  pub settled-read : new ≡ noted m work i k x → x ≢ set_of work i k → IsSettledAt m new i j k
   settled-read stored ne = λ quiet _.
       let same = set-is (λ w. quiet ((step-read stored ne).stays i j w)) in
       rw (stored, e) (IsClosedAlong-narrowed m work i j k a c s z t aw same)
 
-  pub empty-read : new ≡ refined m work i k x → x ≡ 0 → HasEmpty new
+  pub empty-read : new ≡ noted m work i k x → x ≡ 0 → HasEmpty new
   empty-read stored none =
       let p = pair-outer work.nodes i j k t in
       rw stored (record { first = i; second = k; proper = p; empty = refined-first m work i k x c s z p (subst (λ y. IsWithin y (set_of work i k)) (sym e) (IsWithin-meet_l _ _)) ∙ none })
+
+  pub some-read : new ≡ noted m work i k x → x ≢ 0 → EmptiesNone work new
+  some-read stored some =
+      let p = pair-outer work.nodes i j k t in
+      rw stored (EmptiesNone-refined m work i k x c s z p (subst (λ y. IsWithin y (set_of work i k)) (sym e) (IsWithin-meet_l _ _)) some)
 
 -- ---- settled triples
 

@@ -1,5 +1,5 @@
 -- Steps of propagation: the sets of a pair made smaller, and steps one after another.
-use Rattle.std.proofs.Common.{◌≡◌, ◌≢◌, ℕ, ◌+◌, ◌*◌, ◌<◌, ◌≤◌, Bool, true, false, cond, List, length, get_or, set, refl, sym, ◌∙◌, subst, arith, inl, inr, count_by, sum}
+use Rattle.std.proofs.Common.{◌≡◌, ◌≢◌, ℕ, ◌+◌, ◌*◌, ◌<◌, ◌≤◌, Bool, true, false, cond, List, length, get_or, set, refl, sym, ◌∙◌, ap, subst, arith, inl, inr, count_by, sum}
 use Rattle.std.specs.Prelude.{slice_index, slice_set}
 use Rattle.std.proofs.lemmas.List.{length-set, get_or-set_same, get_or-set_other}
 use Rattle.std.proofs.lemmas.List.Sums.{sum_by-set}
@@ -7,14 +7,14 @@ use Rattle.calculus_table.specs.Rel.{IsWithin}
 use Rattle.calculus_table.specs.Algebra.{Algebra}
 use Rattle.calculus_table.specs.Composition.{full_of, converse}
 use Rattle.calculus_table.specs.Calculus.{IsCalculus}
-use Rattle.calculus_table.proofs.Sets.{IsWithin-refl, IsWithin-trans, IsWithin-le}
+use Rattle.calculus_table.proofs.Sets.{IsWithin-refl, IsWithin-trans, IsWithin-le, IsWithin-empty, empty-within}
 use Rattle.calculus_table.proofs.Compositions.{converse-mono, converse-within, converse-converse}
 use Rattle.network_words.specs.Edge.{IsProperPair, IsSamePair}
 use Rattle.network_words.specs.Network.{IsNetwork, relation_between}
 use Rattle.network_words.specs.Closure.{IsClosed}
 use Rattle.network_words.proofs.Networks.{relation_between-converse}
 use Rattle.edge_propagation.specs.Worklist.{Worklist, IsSized, edge_place, set_of, with_pair}
-use Rattle.edge_propagation.specs.Propagation.{AreConverses, IsReady, IsInside, IsStep, IsRefinement}
+use Rattle.edge_propagation.specs.Propagation.{AreConverses, IsReady, IsInside, IsStep, IsRefinement, EmptiesNone}
 use Rattle.edge_propagation.specs.Propagation.{IsMet}
 use Rattle.edge_propagation.proofs.Places.{edge_place-inside, same-place, same-cases, mark-kept}
 
@@ -106,6 +106,19 @@ IsMet-trans m a b c p q =
       same = λ i j r quiet. q.same i j (pair i j r) quiet ∙ p.same i j r (λ h. quiet (q.stays i j h));
     }
 
+-- what can be noted plays no part in a step
+pub IsStep-room : (m : Algebra) (old new : Worklist) (room : ℕ) → IsStep m old new → IsStep m old (record new { room = room })
+IsStep-room m old new room p = record {
+  nodes = p.nodes;
+  planes = p.planes;
+  sets = record { within = p.sets.within; converse = p.sets.converse };
+  within = p.within;
+  kept = p.kept;
+  stays = p.stays;
+  same = p.same;
+  less = p.less;
+}
+
 pub IsReady-step : (m : Algebra) (planes : ℕ) (old new : Worklist) → IsReady m planes old → IsStep m old new → IsReady m planes new
 IsReady-step m planes old new r s = record { calculus = r.calculus; few = r.few; enough = r.enough; planes_are = s.planes ∙ r.planes_are; sets = s.sets }
 
@@ -113,6 +126,13 @@ pub pair-step : (m : Algebra) (old new : Worklist) (i j : ℕ) → IsStep m old 
 pair-step m old new i j s p = subst (λ n. IsProperPair n i j) (sym s.nodes) p
 
 -- ---- the sets of a pair made smaller
+
+-- only the empty set has an empty converse
+converse-some : (m : Algebra) (x : ℕ) → IsCalculus m → IsWithin x (full_of m) → converse m x ≡ 0 → x ≡ 0
+converse-some m x c w e =
+    let back : IsWithin (converse m 0) (converse m (converse m 0)) = converse-mono m 0 (converse m 0) (IsWithin-empty _) in
+    let none : converse m 0 ≡ 0 = empty-within _ (subst (IsWithin (converse m 0)) (converse-converse m 0 c (IsWithin-empty _)) back) in
+    sym (converse-converse m x c w) ∙ ap (converse m) e ∙ none
 
 count-mark : (xs : List Bool) (e : ℕ) → e < length xs → count_by (λ b. b) (set xs e true) ≤ count_by (λ b. b) xs + 1
 count-mark xs e l = omega (arith, sum_by-set (λ (b : Bool). cond b 1 0) xs e true false l)
@@ -195,11 +215,25 @@ module _ (m : Algebra) (work : Worklist) (i k x : ℕ) (c : IsCalculus m) (s : A
             omega arith;
       }
 
+  pub EmptiesNone-refined : x ≢ 0 → EmptiesNone work (refined m work i k x)
+  EmptiesNone-refined some = by_pair (λ a b y. y ≡ 0 → set_of work a b ≡ 0) (λ e. absurd (some e)) (λ e. absurd (some (converse-some m x c full e))) (λ a b q ne e. e)
+
   pub refined-first : set_of (refined m work i k x) i k ≡ x
   refined-first = first
 
   pub refined-other : (a b : ℕ) → IsProperPair work.nodes a b → ¬ IsSamePair a b i k → set_of (refined m work i k x) a b ≡ set_of work a b
   refined-other = other
+
+-- ---- sets that stay other than empty
+
+pub EmptiesNone-trans : (m : Algebra) (a b c : Worklist) → IsStep m a b → EmptiesNone a b → EmptiesNone b c → EmptiesNone a c
+EmptiesNone-trans m a b c p h k = λ i j pair e. h i j pair (k i j (subst (λ n. IsProperPair n i j) (sym p.nodes) pair) e)
+
+-- from where the queue alone is another
+pub EmptiesNone-queue : (m : Algebra) (a b b' c : Worklist) (queued : List Bool) → b' ≡ record b { queued = queued } → IsRefinement m a b → EmptiesNone a b → EmptiesNone b' c → EmptiesNone a c
+EmptiesNone-queue m a b b' c queued same p h k' =
+    let k : EmptiesNone (record b { queued = queued }) c = subst (λ (y : Worklist). EmptiesNone y c) same k' in
+    λ i j pair e. h i j pair (k i j (subst (λ n. IsProperPair n i j) (sym p.nodes) pair) e)
 
 -- ---- what steps come to
 

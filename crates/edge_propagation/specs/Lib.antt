@@ -1,3 +1,2 @@
 pub mod Worklist
 pub mod Propagation
-pub mod Sweeps

@@ -64,6 +64,10 @@ pub record IsRefinement (m : Algebra) (old new : Worklist) : Type 0 where
   pub within : (i j : ℕ) → IsProperPair old.nodes i j → IsWithin (set_of new i j) (set_of old i j)
   pub kept : (words : List ℕ) → IsNetwork m old.nodes words → IsClosed m old.nodes words → IsInside m words old → IsInside m words new
 
+-- no set became empty: those that are empty were so before
+abbrev pub EmptiesNone : Worklist → Worklist → Type 0
+EmptiesNone old new = (i j : ℕ) → IsProperPair old.nodes i j → set_of new i j ≡ 0 → set_of old i j ≡ 0
+
 -- the set of some pair is empty
 pub record HasEmpty (work : Worklist) : Type 0 where
   pub first : ℕ

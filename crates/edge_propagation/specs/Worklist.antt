@@ -5,12 +5,13 @@ use Rattle.network_words.specs.declared.TheConstants.{MAX_NODES}
 use Rattle.compose_fast.specs.Nibbles.{byte}
 
 -- what contracts see of the work: the nodes, the number of planes that the sets are kept in, the set of the pair (i, j) at
--- 256 i + j, and at the place of each pair i < j whether its edge is queued
+-- 256 i + j, at the place of each pair i < j whether its edge is queued, and how many more narrowings can be noted
 pub record Worklist : Type 0 where
   pub nodes : ℕ
   pub planes : ℕ
   pub sets : List ℕ
   pub queued : List Bool
+  pub room : ℕ
 
 -- the set whose bytes, of so many, stand 256 places apart, the first one at this place
 unfoldable pub set_of_bytes : List ℕ → ℕ → ℕ → ℕ
@@ -22,8 +23,8 @@ unfoldable pub sets_in : List ℕ → ℕ → ℕ → List ℕ
 sets_in bytes planes n = map (λ e. set_of_bytes bytes planes (256 * (planes * (e / 256)) + e % 256)) (range_with_len 0 (256 * n))
 
 -- the work whose sets lie in such rows
-abbrev pub worklist_in : ℕ → ℕ → List ℕ → List Bool → Worklist
-worklist_in n planes bytes queued = record { nodes = n; planes = planes; sets = sets_in bytes planes n; queued = queued }
+abbrev pub worklist_in : ℕ → ℕ → List ℕ → List Bool → ℕ → Worklist
+worklist_in n planes bytes queued room = record { nodes = n; planes = planes; sets = sets_in bytes planes n; queued = queued; room = room }
 
 -- the set of the pair (i, j)
 abbrev pub set_of : Worklist → ℕ → ℕ → ℕ
@@ -59,6 +60,18 @@ pub record IsWaiting (work : Worklist) (i j : ℕ) : Type 0 where
 -- no edge from i to a greater node is queued
 abbrev pub IsIdle : Worklist → ℕ → Type 0
 IsIdle work i = (j : ℕ) → i < j → j < work.nodes → ¬ IsQueued work i j
+
+-- no edge is queued
+abbrev pub IsQuiet : Worklist → Type 0
+IsQuiet work = (i : ℕ) → i < work.nodes → IsIdle work i
+
+-- each mark in the queue is at the place of an edge
+abbrev pub AreEdgeMarks : Worklist → Type 0
+AreEdgeMarks work = (e : ℕ) → slice_index_or work.queued e false ≡ true → (e / 256 < e % 256) × (e % 256 < work.nodes)
+
+-- what one edge may narrow, a pair of each of its nodes with every node, can't all be noted
+abbrev pub LacksRoom : Worklist → Type 0
+LacksRoom work = work.room < 2 * work.nodes
 
 -- what is left to do: the sum of the sets as numbers, twice, and the number of edges that are queued
 abbrev pub work_left : Worklist → ℕ

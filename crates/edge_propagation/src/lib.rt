@@ -4,6 +4,7 @@
 //! time. What may be looked at next is proposed by [`Proposals`]: the edge that restricts most, or the oldest.
 #![tactic(auto)]
 
+mod edges;
 mod loading;
 mod meeting;
 mod order;
@@ -12,8 +13,9 @@ mod propagation;
 mod span;
 mod sweeping;
 
+pub use edges::nodes_of_edge;
 pub use loading::{is_stored, load_planes, load_queued, store};
-pub use meeting::{meet, meet_pair, meet_pair_unqueued};
+pub use meeting::{meet, meet_pair};
 pub use order::Proposals;
 pub use pairs::{Note, PairSets};
 pub use propagation::{Emptied, propagate, propagate_all, propagate_noted, put_pair, refine};

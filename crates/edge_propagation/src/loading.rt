@@ -1,6 +1,6 @@
 //! The sets of a network's pairs, taken from its words and stored into them again.
 
-ghost use Rattle.std.specs.Prelude.{◌≡◌, ℕ, ◌+◌, ◌*◌, ◌<◌, ◌≤◌, length, slice_index, IsTrue};
+ghost use Rattle.std.specs.Prelude.{◌≡◌, ℕ, ◌+◌, ◌*◌, ◌<◌, ◌≤◌, ◌↔◌, length, slice_index, IsTrue};
 ghost use Rattle.calculus_table.specs.Calculus.{IsCalculus};
 ghost use Rattle.calculus_table.specs.Rel.{IsWithin};
 ghost use Rattle.calculus_table.specs.Composition.{full_of, converse};
@@ -123,8 +123,8 @@ fn is_row_stored<const P: usize>(words: &[u64], work: &PairSets, i: u32) -> bool
     requires planes { work.now.planes ≡ P }
     requires length_is { length words.now ≡ edge_count work.now.nodes }
     requires below { i < work.now.nodes }
-    ensures { IsTrue result → (j : ℕ) → i < j → j < work.now.nodes →
-        slice_index words.now (edge_at work.now.nodes i j) ≡ set_of work.now i j }
+    ensures { IsTrue result ↔ ((j : ℕ) → i < j → j < work.now.nodes →
+        slice_index words.now (edge_at work.now.nodes i j) ≡ set_of work.now i j) }
 {
     let nodes = work.nodes();
     for j in i + 1..nodes {
@@ -139,7 +139,7 @@ fn is_row_stored<const P: usize>(words: &[u64], work: &PairSets, i: u32) -> bool
 fn are_rows_stored<const P: usize>(words: &[u64], work: &PairSets) -> bool
     requires planes { work.now.planes ≡ P }
     requires length_is { length words.now ≡ edge_count work.now.nodes }
-    ensures { IsTrue result → IsStored work.now.nodes words.now work.now work.now.nodes }
+    ensures { IsTrue result ↔ IsStored work.now.nodes words.now work.now work.now.nodes }
 {
     let nodes = work.nodes();
     for i in 0..nodes {
@@ -154,7 +154,7 @@ fn are_rows_stored<const P: usize>(words: &[u64], work: &PairSets) -> bool
 pub fn is_stored(words: &[u64], work: &PairSets) -> bool
     requires planes { IsPlanes work.now.planes }
     requires length_is { length words.now ≡ edge_count work.now.nodes }
-    ensures { IsTrue result → IsStored work.now.nodes words.now work.now work.now.nodes }
+    ensures { IsTrue result ↔ IsStored work.now.nodes words.now work.now work.now.nodes }
 {
     let planes = work.planes();
     if planes == 1 {

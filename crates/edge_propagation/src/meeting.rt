@@ -5,7 +5,7 @@ ghost use Rattle.network_words.specs.Edge.{edge_count, IsProperPair};
 ghost use Rattle.edge_propagation.specs.Propagation.{AreConverses, IsMet, IsPairMet, IsRowMet, AreRowsMet};
 
 use crate::pairs::PairSets;
-use crate::propagation::{put_pair, refine};
+use crate::propagation::refine;
 use calculus_table::{Compose, Rel, lawful};
 use network_words::edge_between;
 
@@ -27,29 +27,6 @@ pub fn meet_pair<C: Compose, const P: usize>(work: &mut PairSets, c: &C, i: u32,
         return;
     }
     refine::<C, P>(work, c, i, j, met);
-}
-
-/// Intersects the set of `(i, j)` with another, and queues no edge for it.
-#[inline(always)]
-pub fn meet_pair_unqueued<C: Compose, const P: usize>(
-    work: &mut PairSets,
-    c: &C,
-    i: u32,
-    j: u32,
-    rel: Rel,
-)
-    requires planes { work.old.planes ≡ P }
-    requires enough { (C.algebra c.now).size ≤ 8 * P }
-    requires sets { AreConverses (C.algebra c.now) work.old }
-    requires proper { IsProperPair work.old.nodes i j }
-    ensures rest { work.new ≡ record work.old { sets = work.new.sets } }
-    ensures sets { AreConverses (C.algebra c.now) work.new }
-    ensures set { IsPairMet work.old work.new i j rel }
-{
-    lawful(c);
-    let _nodes = work.nodes();
-    let set = work.get::<P>(i, j);
-    put_pair::<C, P>(work, c, i, j, set.meet(rel));
 }
 
 /// Intersects the sets of node `i` to greater ones with those of their edges.

@@ -39,18 +39,20 @@ pub struct PairSets {
 }
 
 impl Model for PairSets {
-    ghost use Rattle.std.specs.Prelude.{◌≡◌, ◌*◌, ◌≤◌, count_by, vec_capacity};
-    ghost use Rattle.edge_propagation.specs.Worklist.{Worklist, IsSized, AreBytesOf, worklist_in};
+    ghost use Rattle.std.specs.Prelude.{◌≡◌, ◌*◌, ◌-◌, ◌≤◌, length, count_by, vec_capacity};
+    ghost use Rattle.edge_propagation.specs.Worklist.{Worklist, IsSized, AreBytesOf, AreEdgeMarks, worklist_in};
 
     ghost Value = { Worklist };
 
-    ghost view = { λ a. worklist_in a.nodes a.planes a.bytes.items a.queued.items };
+    ghost view = { λ a. worklist_in a.nodes a.planes a.bytes.items a.queued.items
+        (length a.notes.items - a.noted) };
 
     ghost invariant = { λ a.
-        IsSized (worklist_in a.nodes a.planes a.bytes.items a.queued.items)
-        × AreBytesOf (worklist_in a.nodes a.planes a.bytes.items a.queued.items) a.bytes.items
+        IsSized (worklist_in a.nodes a.planes a.bytes.items a.queued.items 0)
+        × AreBytesOf (worklist_in a.nodes a.planes a.bytes.items a.queued.items 0) a.bytes.items
         × (a.waiting ≡ count_by (λ b. b) a.queued.items)
-        × (2048 * a.nodes ≤ vec_capacity a.bytes) };
+        × (2048 * a.nodes ≤ vec_capacity a.bytes)
+        × AreEdgeMarks (worklist_in a.nodes a.planes a.bytes.items a.queued.items 0) };
 }
 
 /// The place of the first byte of the set of `(i, k)` in `P` planes.
@@ -94,12 +96,12 @@ fn read_set(bytes: &[u8], planes: usize, at: usize) -> Rel
 }
 
 impl PairSets {
-    ghost use Rattle.std.specs.Prelude.{◌≡◌, ℕ, ◌+◌, ◌*◌, ◌^◌, ◌<◌, ◌≤◌, ◌↔◌, true, false, IsTrue, IfOk, IfSome};
-    ghost use Rattle.std.specs.Prelude.{IfNone, MatchOption, length, slice_set};
+    ghost use Rattle.std.specs.Prelude.{◌≡◌, ◌+◌, ◌-◌, ◌*◌, ◌^◌, ◌<◌, ◌≤◌, ◌↔◌, ◌⊎◌, true, false, IsTrue};
+    ghost use Rattle.std.specs.Prelude.{IfOk, OnOk, OnErr, IfSome, IfNone, MatchOption, length, slice_set};
     ghost use Rattle.network_words.specs.Edge.{IsProperPair};
     ghost use Rattle.network_words.specs.declared.TheConstants.{MAX_NODES};
     ghost use Rattle.edge_propagation.specs.Worklist.{Worklist, IsSized, AreBytesOf, IsWaiting, IsIdle, IsQueued};
-    ghost use Rattle.edge_propagation.specs.Worklist.{IsBegun, set_of, edge_place};
+    ghost use Rattle.edge_propagation.specs.Worklist.{IsQuiet, LacksRoom, IsBegun, set_of, edge_place};
 
     /// Room for so many nodes, with proposals for as many.
     pub fn new(alloc: Global, nodes: u32, proposals: Proposals) -> Result<PairSets, Memory>
@@ -122,18 +124,20 @@ impl PairSets {
         })
     }
 
-    /// Makes room for so many blocks of 256 notes.
+    /// Makes room for so many blocks of 256 notes, and forgets what was noted.
     pub fn make_notes(&mut self, alloc: Global, blocks: usize) -> Result<(), Memory>
-        ensures { self.new ≡ self.old }
+        ensures room { OnOk result (self.new ≡ record self.old { room = 256 * blocks }) }
+        ensures same { OnErr result (self.new ≡ self.old) }
     {
         self.notes = filled(alloc, Note { i: 0, j: 0, k: 0 }, blocks)?;
+        self.noted = 0;
         Ok(())
     }
 
     /// Notes that the set of `(i, k)` was made smaller along `j`, if there is room.
     #[inline(always)]
     pub fn note(&mut self, i: u32, j: u32, k: u32)
-        ensures { self.new ≡ self.old }
+        ensures { self.new ≡ record self.old { room = self.old.room - 1 } }
     {
         if self.noted < self.notes.len() {
             self.notes[self.noted] = Note {
@@ -152,7 +156,8 @@ impl PairSets {
 
     /// Forgets what was noted.
     pub fn forget_notes(&mut self)
-        ensures { self.new ≡ self.old }
+        ensures rest { self.new ≡ record self.old { room = self.new.room } }
+        ensures room { self.old.room ≤ self.new.room }
     {
         self.noted = 0;
     }
@@ -286,8 +291,7 @@ impl PairSets {
     #[inline(never)]
     fn first_queued(&self) -> Option<(u32, u32)>
         ensures { MatchOption result
-            ((i : ℕ) → i < self.now.nodes → IsIdle self.now i)
-            (λ e. IsWaiting self.now e.0 e.1) }
+            (IsQuiet self.now) (λ e. IsWaiting self.now e.0 e.1) }
     {
         let nodes = self.nodes();
         for i in 0..nodes {
@@ -303,8 +307,7 @@ impl PairSets {
     fn next_queued(&mut self) -> Option<(u32, u32)>
         ensures same { self.new ≡ self.old }
         ensures edge { MatchOption result
-            ((i : ℕ) → i < self.old.nodes → IsIdle self.old i)
-            (λ e. IsWaiting self.old e.0 e.1) }
+            (IsQuiet self.old) (λ e. IsWaiting self.old e.0 e.1) }
     {
         if let Some(edge) = self.proposed() {
             return Some(edge);
@@ -315,7 +318,7 @@ impl PairSets {
     /// Takes an edge off the queue.
     #[inline(always)]
     pub fn pop(&mut self) -> Option<(u32, u32)>
-        ensures idle { IfNone result ((self.new ≡ self.old) × ((i : ℕ) → i < self.old.nodes → IsIdle self.old i)) }
+        ensures idle { IfNone result ((self.new ≡ self.old) × IsQuiet self.old) }
         ensures queued { IfSome result (λ e. IsWaiting self.old e.0 e.1) }
         ensures taken { IfSome result (λ e. self.new ≡ record self.old {
           queued = slice_set self.old.queued (edge_place e.0 e.1) false;
@@ -335,7 +338,7 @@ impl PairSets {
 
     /// Takes an edge off the queue, where there is room for a note of each of its triples.
     pub fn pop_noted(&mut self) -> Option<(u32, u32)>
-        ensures same { IfNone result (self.new ≡ self.old) }
+        ensures done { IfNone result ((self.new ≡ self.old) × (IsQuiet self.old ⊎ LacksRoom self.old)) }
         ensures queued { IfSome result (λ e. IsWaiting self.old e.0 e.1) }
         ensures taken { IfSome result (λ e. self.new ≡ record self.old {
           queued = slice_set self.old.queued (edge_place e.0 e.1) false;
@@ -350,7 +353,7 @@ impl PairSets {
 
     /// Whether no edge is queued.
     pub fn is_idle(&self) -> bool
-        ensures { IsTrue result → (i : ℕ) → i < self.now.nodes → IsIdle self.now i }
+        ensures { IsTrue result ↔ IsQuiet self.now }
     {
         self.waiting == 0
     }
@@ -363,7 +366,7 @@ impl PairSets {
     /// Takes every edge off the queue.
     pub fn clear(&mut self)
         ensures rest { self.new ≡ record self.old { queued = self.new.queued } }
-        ensures idle { (i : ℕ) → i < self.new.nodes → IsIdle self.new i }
+        ensures idle { IsQuiet self.new }
     {
         if self.waiting == 0 && self.proposals.is_empty() {
             return;

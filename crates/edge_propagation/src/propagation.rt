@@ -15,13 +15,15 @@
 //! What it costs: an edge is queued at most as often as its set can lose base relations, and each time 2 n sets are
 //! looked at, 16 at once. Where a block has a set that isn't within its composition, that one is narrowed by itself.
 
-ghost use Rattle.std.specs.Prelude.{◌≡◌, ℕ, ◌+◌, ◌*◌, ◌<◌, ◌≤◌, OnOk, OnErr};
+ghost use Rattle.std.specs.Prelude.{◌≡◌, ℕ, ◌+◌, ◌*◌, ◌<◌, ◌≤◌, ◌⊎◌, OnOk, OnErr};
 ghost use Rattle.calculus_table.specs.Rel.{Has, IsWithin};
 ghost use Rattle.calculus_table.specs.Composition.{full_of, converse};
 ghost use Rattle.network_words.specs.Edge.{IsProperPair, IsProperTriple};
 ghost use Rattle.compose_fast.specs.Planes.{AreBaseTables, AreTablesOf};
 ghost use Rattle.edge_propagation.specs.Worklist.{Worklist, IsSized, IsQueued, IsIdle, set_of, edge_place, with_pair};
+ghost use Rattle.edge_propagation.specs.Worklist.{IsQuiet, LacksRoom};
 ghost use Rattle.edge_propagation.specs.Propagation.{IsReady, IsStep, IsRefinement, HasEmpty, AreRowsClosed};
+ghost use Rattle.edge_propagation.specs.Propagation.{EmptiesNone};
 ghost use Rattle.edge_propagation.specs.Propagation.{IsAmong, IsCharged, IsSettledAt, IsSettled};
 ghost use Rattle.edge_propagation.specs.Propagation.{IsSettledBut};
 ghost use Rattle.std.specs.Prelude.{slice_set, true};
@@ -85,6 +87,7 @@ fn narrow<C: Compose, const P: usize>(
     requires set { ¬ IsQueued work.old i j → a ≡ set_of work.old i j }
     ensures step { IsStep (C.algebra c.now) work.old work.new }
     ensures settled { OnOk result (IsSettledAt (C.algebra c.now) work.new i j k) }
+    ensures none { OnOk result (EmptiesNone work.old work.new) }
     ensures empty { OnErr result (HasEmpty work.new) }
 {
     let _nodes = work.nodes();
@@ -121,6 +124,7 @@ fn narrow_proper<C: Compose, const P: usize>(
     ensures step { IsStep (C.algebra c.now) work.old work.new }
     ensures settled { OnOk result
         (IsProperTriple work.old.nodes i j k → IsAmong span k → IsSettledAt (C.algebra c.now) work.new i j k) }
+    ensures none { OnOk result (EmptiesNone work.old work.new) }
     ensures empty { OnErr result (HasEmpty work.new) }
 {
     if span.first <= k && k < span.end && k != i && k != j {
@@ -133,7 +137,7 @@ fn narrow_proper<C: Compose, const P: usize>(
 /// Narrows the set of `(i, k)` along `j` for the nodes `k` of a block that are in the range and whose lane is set in
 /// `gaps`.
 #[inline(never)]
-pub(crate) fn narrow_lanes<C: Compose, const P: usize>(
+fn narrow_lanes<C: Compose, const P: usize>(
     work: &mut PairSets,
     tables: &Tables,
     c: &C,
@@ -156,6 +160,7 @@ pub(crate) fn narrow_lanes<C: Compose, const P: usize>(
     ensures step { IsStep (C.algebra c.now) work.old work.new }
     ensures settled { OnOk result ((l : ℕ) → l < 16 → IsProperTriple work.old.nodes i j (16 * block + l) →
         IsAmong span (16 * block + l) → IsSettledAt (C.algebra c.now) work.new i j (16 * block + l)) }
+    ensures none { OnOk result (EmptiesNone work.old work.new) }
     ensures empty { OnErr result (HasEmpty work.new) }
 {
     let mut left = gaps;
@@ -190,6 +195,7 @@ fn propagate_block<C: Compose, const P: usize>(
     ensures step { IsStep (C.algebra c.now) work.old work.new }
     ensures settled { OnOk result ((l : ℕ) → l < 16 → IsProperTriple work.old.nodes i j (16 * block + l) →
         IsAmong span (16 * block + l) → IsSettledAt (C.algebra c.now) work.new i j (16 * block + l)) }
+    ensures none { OnOk result (EmptiesNone work.old work.new) }
     ensures empty { OnErr result (HasEmpty work.new) }
 {
     let _nodes = work.nodes();
@@ -220,6 +226,7 @@ pub fn propagate_span<C: Compose, const P: usize>(
     ensures step { IsStep (C.algebra c.now) work.old work.new }
     ensures settled { OnOk result ((k : ℕ) → IsProperTriple work.old.nodes i j k → IsAmong span k →
         IsSettledAt (C.algebra c.now) work.new i j k) }
+    ensures none { OnOk result (EmptiesNone work.old work.new) }
     ensures empty { OnErr result (HasEmpty work.new) }
     ensures tables { tables.new.bases ≡ tables.old.bases }
 {
@@ -251,6 +258,7 @@ fn propagate_from<C: Compose, const P: usize>(
     ensures step { IsStep (C.algebra c.now) work.old work.new }
     ensures settled { OnOk result ((k : ℕ) → IsProperTriple work.old.nodes i j k → IsCharged rows i k →
         IsSettledAt (C.algebra c.now) work.new i j k) }
+    ensures none { OnOk result (EmptiesNone work.old work.new) }
     ensures empty { OnErr result (HasEmpty work.new) }
     ensures tables { tables.new.bases ≡ tables.old.bases }
 {
@@ -274,6 +282,7 @@ pub fn propagate<C: Compose, const P: usize>(
     requires tables { AreBaseTables (C.algebra c.now) P tables.old.bases }
     ensures step { IsStep (C.algebra c.now) work.old work.new }
     ensures settled { OnOk result (IsSettled (C.algebra c.now) rows work.new) }
+    ensures none { OnOk result (EmptiesNone work.old work.new) }
     ensures empty { OnErr result (HasEmpty work.new) }
     ensures tables { tables.new.bases ≡ tables.old.bases }
 {
@@ -304,7 +313,7 @@ pub fn propagate_all<C: Compose, const P: usize>(
 }
 
 /// Takes edges off the queue and narrows the pairs that belong to the rows along them, until none is left or there is
-/// no room for notes of more.
+/// no room for the notes of one more.
 pub fn propagate_noted<C: Compose, const P: usize>(
     work: &mut PairSets,
     tables: &mut Tables,
@@ -316,6 +325,8 @@ pub fn propagate_noted<C: Compose, const P: usize>(
     requires tables { AreBaseTables (C.algebra c.now) P tables.old.bases }
     ensures refined { IsRefinement (C.algebra c.now) work.old work.new }
     ensures settled { OnOk result (IsSettled (C.algebra c.now) rows work.new) }
+    ensures done { OnOk result (IsQuiet work.new ⊎ LacksRoom work.new) }
+    ensures none { OnOk result (EmptiesNone work.old work.new) }
     ensures empty { OnErr result (HasEmpty work.new) }
     ensures tables { tables.new.bases ≡ tables.old.bases }
 {

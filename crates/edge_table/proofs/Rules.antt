@@ -6,6 +6,7 @@ use mathlib.Core.Option.{some}
 use lib.ListN.{get_elem?}
 use Rattle.std.proofs.lemmas.List.{take_all}
 use Rattle.atomic_table.specs.Table.{State, opening}
+use Rattle.atomic_table.proofs.Lists.{at_map}
 use Rattle.calculus_table.specs.Algebra.{Algebra}
 use Rattle.calculus_table.specs.Calculus.{IsCalculus}
 use Rattle.calculus_table.specs.Composition.{full_of}
@@ -23,6 +24,7 @@ use Rattle.edge_table.specs.Opening.{padded, opening_over, algebra_of}
 use Rattle.edge_table.specs.Rule.{core_of, IsKept, first_view}
 use Rattle.edge_table.specs.declared.TheConstants.{MAX_WEIGHT}
 use Rattle.edge_table.specs.declared.rule.Opening.{Opening}
+use Rattle.edge_table.specs.declared.sight.Sight.{Sight}
 
 take-padded : (words : List ℕ) (n : ℕ) → length words ≡ n → take n (padded words) ≡ words
 take-padded [] n e = let xs : List ℕ = 0 ∷ [] in subst (λ (k : ℕ). take k xs ≡ []) e refl
@@ -52,13 +54,14 @@ some-padded (x ∷ xs) = omega arith
 -- ---- a table closed by its last pass
 
 -- where a pass has the whole weight, the words are those that a table is closed with
-pub AreClosedWords-kept : (o : Opening) (s : State ℕ ActorState) (id : ℕ) (a : ActorState) (words : List ℕ) → IsKept o s → get_elem? s.views id ≡ some a → IsTrue a.is_live →
-    a.weight ≡ o.weight → words ≡ take (edge_count o.nodes) s.words → AreClosedWords o a words
-AreClosedWords-kept o s id a words kept found live whole are =
+pub AreClosedWords-kept : (o : Opening) (s : State ℕ Sight) (id : ℕ) (v : Sight) (words : List ℕ) → IsKept o s → get_elem? s.views id ≡ some v → IsTrue v.actor.is_live →
+    v.actor.weight ≡ o.weight → words ≡ take (edge_count o.nodes) s.words → AreClosedWords o v.actor words
+AreClosedWords-kept o s id v words kept found live whole are =
+    let a = v.actor in
     let m = algebra_of o in
     let c = core_of o s in
-    let there = get-found s.views id a found in
-    let at : IsLiveAt s.views id a = record { is_there = there; is_live = live } in
+    let there = get-found c.actors id a (at_map (λ (x : Sight). x.actor) s.views id v found) in
+    let at : IsLiveAt c.actors id a = record { is_there = there; is_live = live } in
     let alone = Holds-alone m c id a kept.holds at whole in
     let bound = kept.holds.bound in
     subst (AreClosedWords o a) (sym are) (record {
@@ -66,12 +69,14 @@ AreClosedWords-kept o s id a words kept found live whole are =
       opening = bound.words_within.opening;
       seen = (bound.words_within.actors id a at).seen;
       facts = (bound.words_within.actors id a at).facts;
+      seen_opening = (bound.seen_within id a at).opening;
+      seen_facts = (bound.seen_within id a at).facts;
       kept = λ xs net closed w facts. bound.nothing_lost xs (record {
         network = net;
         closed = closed;
         opening = w;
         facts = λ l b t.
-            let same : a ≡ b = same_actor s.views l a b (subst (λ (i : ℕ). slice_get s.views i ≡ Some a) (sym (alone.only l b t)) there) t.is_there in
+            let same : a ≡ b = same_actor c.actors l a b (subst (λ (i : ℕ). slice_get c.actors i ≡ Some a) (sym (alone.only l b t)) there) t.is_there in
             subst (λ (x : ActorState). All (IsWithinFact m o.nodes xs) x.mine) same facts;
       });
     })

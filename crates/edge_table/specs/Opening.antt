@@ -39,12 +39,21 @@ pub record OpenState : Type 0 where
   pub id : TableId
   pub opening : Opening
 
--- what contracts see of a pass: the table that it belongs to, the nodes and the full set of its opening, and the actor that it is
+-- what contracts see of a pass: the table that it belongs to, the nodes and the full set of its opening, the actor that it is, and
+-- how often it has loaded a word and has made a `fetch_and`
 pub record PassState : Type 0 where
   pub id : TableId
   pub nodes : ℕ
   pub full : ℕ
   pub actor : ActorState
+  pub loads : ℕ
+  pub fetch_ands : ℕ
+
+-- what contracts see of a token of a closed table: its opening, its last pass, and the words that it was closed with
+pub record ClosedState : Type 0 where
+  pub opening : Opening
+  pub pass : PassState
+  pub words : List ℕ
 
 -- the pass belongs to the table
 pub record IsPassOf (table : OpenState) (pass : PassState) : Type 0 where

@@ -6,28 +6,32 @@
 //! pass has then seen of the edge, since words only become less and never less than any pass has seen.
 //! No call waits, and none takes memory but `open`: nothing is locked, and `fetch_and` is one
 //! instruction. A narrowing costs one composition and one `fetch_and`, a refresh one load for each edge.
+//! Each pass counts its loads and its `fetch_and`s, for proofs alone, so that the contracts tell what a
+//! call costs and refuse a body that answers without a look at the table.
 ghost use Rattle.std.specs.Prelude.{◌≡◌, ◌<◌, ◌≤◌, IfOk};
 ghost use Rattle.network_words.specs.Network.{IsNetwork};
 ghost use Rattle.narrow_core.specs.Actor.{fresh};
 ghost use Rattle.edge_table.specs.Opening.{IsPassOf, opening_over};
 
 use crate::MAX_WEIGHT;
+use crate::closed::ClosedTable;
 use crate::pass::Pass;
 use crate::plays::{Given, Giving, Joining, Narrowing, Reading, Stated, Stating, Weighing};
 use crate::rule::{EdgeRule, Opening};
+use crate::sight::Sight;
 use crate::snapshot::Snapshot;
 use crate::words::{opening, words_of_table, write_words};
 use atomic_table::{Badge, Table};
 use calculus_table::{Compose, Memory, Rel, lawful};
-use narrow_core::Actor;
 use network_words::{Fact, Net, edge_between, oriented, relation_between};
 use std::alloc::Global;
 use std::marker::{Brand, Model};
+use std::snapshot;
 
 /// A table of edge words that passes narrow, from any thread.
 #[derive(Drop)]
 pub struct OpenNet {
-    table: Table<u8, Actor, Badge<Opening>, EdgeRule, Global>,
+    table: Table<u8, Sight, Badge<Opening>, EdgeRule, Global>,
     nodes: u32,
 }
 
@@ -48,7 +52,7 @@ impl Model for OpenNet {
 }
 
 /// Opens a table with the words of `net`, and makes its first pass, which has the whole weight, has
-/// stated nothing and has seen the words.
+/// stated and counted nothing and has seen the words.
 pub fn open<C: Compose>(
     alloc: Global,
     net: &Net,
@@ -62,6 +66,7 @@ pub fn open<C: Compose>(
         (λ t. t.0.opening ≡ opening_over net.now weight (C.algebra c.now)) }
     ensures pass { IfOk result (λ t. IsPassOf t.0 t.1) }
     ensures actor { IfOk result (λ t. t.1.actor ≡ fresh weight net.now.words) }
+    ensures counted { IfOk result (λ t. (t.1.loads ≡ 0) × (t.1.fetch_ands ≡ 0)) }
 {
     lawful(c);
     let opening = opening(alloc, net, c, weight)?;
@@ -80,7 +85,7 @@ pub fn open<C: Compose>(
 }
 
 impl OpenNet {
-    ghost use Rattle.std.specs.Prelude.{◌≡◌, ◌≢◌, ℕ, ◌<◌, ◌≤◌, ◌↔◌, IsTrue, IfOk, IfSome, None};
+    ghost use Rattle.std.specs.Prelude.{◌≡◌, ◌≢◌, ℕ, ◌+◌, ◌<◌, ◌≤◌, ◌↔◌, IsTrue, IfOk, IfSome, None};
     ghost use Rattle.std.specs.Prelude.{length, sum, bit_and, slice_index, slice_set};
     ghost use Rattle.calculus_table.specs.Rel.{IsWithin};
     ghost use Rattle.calculus_table.specs.Composition.{full_of, composition};
@@ -92,7 +97,7 @@ impl OpenNet {
     ghost use Rattle.narrow_core.specs.Machine.{IsProperFact};
     ghost use Rattle.edge_table.specs.Opening.{IsPassOf, algebra_of, opening_over};
     ghost use Rattle.edge_table.specs.Passes.{seen_between, Reads, Asserts, Narrows, ReadsAndNarrows};
-    ghost use Rattle.edge_table.specs.Passes.{ReadsAll, AreClosedWords};
+    ghost use Rattle.edge_table.specs.Passes.{ReadsSome, ReadsAll, AreClosedWords, edges_until};
 
     /// The number of nodes.
     pub fn nodes(&self) -> u32
@@ -130,8 +135,8 @@ impl OpenNet {
         ensures within { IsWithin result (full_of (C.algebra c.now)) }
     {
         let edge = edge_between(self.nodes, i, j);
-        let word = self.load(pass, edge);
-        oriented(c, i, j, Rel::of(word))
+        let found = self.load(pass, edge);
+        oriented(c, i, j, Rel::of(found))
     }
 
     /// Narrows the relation of node `i` to node `k` along node `j`: by two loads and one `fetch_and`.
@@ -201,13 +206,14 @@ impl OpenNet {
         }
     }
 
-    /// Loads every word again, in edge order. Returns whether the pass has then seen less of some edge.
+    /// Loads every word again, in edge order. Returns whether the pass has then seen less of some edge than before.
     pub fn refresh_again(&self, pass: &mut Pass, snap: &mut Snapshot) -> bool
         requires pass { IsPassOf self.now pass.old }
         requires snap { snap.old ≡ pass.old.actor.seen }
         ensures pass { IsPassOf self.now pass.new }
         ensures reads { ReadsAll pass.old pass.new }
-        ensures less { IsTrue result → sum pass.new.actor.seen < sum pass.old.actor.seen }
+        ensures less { IsTrue result ↔ (pass.new.actor.seen ≢ pass.old.actor.seen) }
+        ensures sum { IsTrue result → sum pass.new.actor.seen < sum pass.old.actor.seen }
         ensures snap { snap.new ≡ pass.new.actor.seen }
         ensures network { IsNetwork (algebra_of self.now.opening) self.now.opening.nodes snap.new }
     {
@@ -221,9 +227,9 @@ impl OpenNet {
         less
     }
 
-    /// Loads the words of the edges from the number `from` up to but without `to` again, until the pass has then seen
-    /// less of one. Returns the number of that edge, and its set.
-    pub fn next_less(
+    /// Loads the words of the edges from the number `from` up to but without `to` again, one load for each, until the
+    /// pass has then seen less of one. Returns the number of that edge, and its set.
+    pub fn next_lesser(
         &self,
         pass: &mut Pass,
         snap: &mut Snapshot,
@@ -234,7 +240,7 @@ impl OpenNet {
         requires snap { snap.old ≡ pass.old.actor.seen }
         requires below { to ≤ edge_count self.now.opening.nodes }
         ensures pass { IsPassOf self.now pass.new }
-        ensures reads { ReadsAll pass.old pass.new }
+        ensures reads { ReadsSome (edges_until from to result) pass.old pass.new }
         ensures snap { snap.new ≡ pass.new.actor.seen }
         ensures among { IfSome result (λ less. (from ≤ less.0) × (less.0 < to)) }
         ensures less { IfSome result (λ less. less.1 ≢ slice_index snap.old less.0) }
@@ -253,8 +259,9 @@ impl OpenNet {
         None
     }
 
-    /// Two passes that have seen what this one has: the first keeps its facts and the rest of its
-    /// weight, the second has the weight `left` and has stated nothing.
+    /// Two passes that have seen what this one has: the first keeps its facts, its counts and the rest
+    /// of its weight, the second has the weight `left` and has stated and counted nothing. The load of
+    /// this call isn't counted, since it tells nothing.
     pub fn split(&self, pass: Pass, left: u32) -> (Pass, Pass)
         requires pass { IsPassOf self.now pass }
         requires some { 0 < left }
@@ -262,17 +269,21 @@ impl OpenNet {
         ensures passes { IsPassOf self.now result.0 × IsPassOf self.now result.1 }
         ensures first { result.0.actor ≡ giving left pass.actor }
         ensures second { result.1.actor ≡ fresh left pass.actor.seen }
+        ensures counts { (result.0.loads ≡ pass.loads) × (result.0.fetch_ands ≡ pass.fetch_ands) }
+        ensures no_counts { (result.1.loads ≡ 0) × (result.1.fetch_ands ≡ 0) }
     {
         self.cut::<Brand>(pass, left)
     }
 
-    /// One pass with the weights of both, the facts of `a` and then those of `b`, and what both have
-    /// seen.
+    /// One pass with the weights and the counts of both, the facts of `a` and then those of `b`, and
+    /// what both have seen. The loads of this call aren't counted, since they tell nothing.
     pub fn join(&self, a: Pass, b: Pass) -> Pass
         requires first { IsPassOf self.now a }
         requires second { IsPassOf self.now b }
         ensures pass { IsPassOf self.now result }
         ensures actor { result.actor ≡ joining a.actor b.actor }
+        ensures loads { result.loads ≡ a.loads + b.loads }
+        ensures fetch_ands { result.fetch_ands ≡ a.fetch_ands + b.fetch_ands }
     {
         let Pass {
             mut seat,
@@ -298,14 +309,19 @@ impl OpenNet {
     }
 
     /// Closes the table with its last pass, which has the whole weight, and writes its words into a
-    /// network with the same nodes.
-    pub fn close(self, pass: Pass, into: &mut Net)
+    /// network with the same nodes. The token tells of which table, which pass and which words.
+    pub fn close(self, pass: Pass, into: &mut Net) -> ClosedTable
         requires pass { IsPassOf self pass }
         requires whole { pass.actor.weight ≡ self.opening.weight }
         requires nodes { into.old.nodes ≡ self.opening.nodes }
         ensures rest { into.new ≡ record into.old { words = into.new.words } }
         ensures words { AreClosedWords self.opening pass.actor into.new.words }
+        ensures opening { result.opening ≡ self.opening }
+        ensures last { result.pass ≡ pass }
+        ensures closed { result.words ≡ into.new.words }
     {
+        let opened = snapshot::Snapshot::of(&self);
+        let last = snapshot::Snapshot::of(&pass);
         let OpenNet { table, nodes: _ } = self;
         let Pass {
             seat,
@@ -316,6 +332,11 @@ impl OpenNet {
         let closed = table.close_with(seat);
         write_words(&closed, into);
         closed.free();
+        ClosedTable {
+            table: opened,
+            pass: last,
+            into: snapshot::Snapshot::of(into),
+        }
     }
 
     /// Loads the word of an edge, which the pass has then seen.
@@ -323,7 +344,10 @@ impl OpenNet {
         requires pass { IsPassOf self.now pass.old }
         requires edge { edge < edge_count self.now.opening.nodes }
         ensures pass { IsPassOf self.now pass.new }
-        ensures sees { pass.new ≡ record pass.old { actor = seeing edge result pass.old.actor } }
+        ensures sees { pass.new ≡ record pass.old {
+          actor = seeing edge result pass.old.actor;
+          loads = pass.old.loads + 1;
+        } }
         ensures shown { slice_index pass.new.actor.seen edge ≡ result }
         ensures within { IsWithin result (full_of (algebra_of self.now.opening)) }
     {
@@ -394,6 +418,8 @@ impl OpenNet {
         ensures passes { IsPassOf self.now result.0 × IsPassOf self.now result.1 }
         ensures first { result.0.actor ≡ giving left pass.actor }
         ensures second { result.1.actor ≡ fresh left pass.actor.seen }
+        ensures counts { (result.0.loads ≡ pass.loads) × (result.0.fetch_ands ≡ pass.fetch_ands) }
+        ensures no_counts { (result.1.loads ≡ 0) × (result.1.fetch_ands ≡ 0) }
     {
         let Pass {
             mut seat,

@@ -1,13 +1,14 @@
+use crate::sight::Sight;
 use atomic_table::Seat;
 use calculus_table::Rel;
-use narrow_core::Actor;
 use std::marker::Model;
 
 /// The right to narrow the words of one table, which one thread has at a time. What it has stated and
-/// what it has seen are parts of the view of its seat, which proofs alone have: they take no room.
+/// what it has seen, and how often it has loaded a word or made a `fetch_and`, are parts of the view of
+/// its seat, which proofs alone have: they take no room.
 #[derive(Drop)]
 pub struct Pass {
-    pub(crate) seat: Seat<u8, Actor>,
+    pub(crate) seat: Seat<u8, Sight>,
     pub(crate) weight: u32,
     pub(crate) nodes: u32,
     pub(crate) full: Rel,
@@ -22,14 +23,18 @@ impl Model for Pass {
       id = p.seat.table_id;
       nodes = p.nodes;
       full = p.full;
-      actor = p.seat.me.0;
+      actor = p.seat.me.0.actor;
+      loads = p.seat.me.0.loads;
+      fetch_ands = p.seat.me.0.fetch_ands;
     } };
 
     ghost invariant = { λ p. IsPass p.weight p.seat.me.1 (record {
       id = p.seat.table_id;
       nodes = p.nodes;
       full = p.full;
-      actor = p.seat.me.0;
+      actor = p.seat.me.0.actor;
+      loads = p.seat.me.0.loads;
+      fetch_ands = p.seat.me.0.fetch_ands;
     }) };
 }
 

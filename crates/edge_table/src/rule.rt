@@ -1,6 +1,6 @@
+use crate::sight::Sight;
 use atomic_table::{Badge, TableRule};
 use calculus_table::{Calculus, Compose};
-use narrow_core::Actor;
 use network_words::Net;
 use std::collections::LinkedList;
 
@@ -32,11 +32,11 @@ impl<'a, C: Compose> TableRule<u8, Opening, Opener<'a, C>> for Telling {
     ghost first = { λ opener. opening_over opener.net.now opener.weight (C.algebra opener.c.now) };
 }
 
-/// The rule of a table of edge words: its words and the views of its passes are a machine of which the
+/// The rule of a table of edge words: its words and the actors of its passes are a machine of which the
 /// bound holds.
 pub struct EdgeRule;
 
-impl TableRule<u8, Actor, Badge<Opening>> for EdgeRule {
+impl TableRule<u8, Sight, Badge<Opening>> for EdgeRule {
     ghost use Rattle.edge_table.specs.Opening.{opening_of};
     ghost use Rattle.edge_table.specs.Rule.{IsKept, first_view};
 

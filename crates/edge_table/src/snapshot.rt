@@ -1,33 +1,14 @@
-ghost use Rattle.std.specs.Prelude.{◌<◌, ◌≤◌, IfSome};
 ghost use Rattle.network_words.specs.declared.TheConstants.{MAX_NODES};
 
 use calculus_table::{Compose, Memory, Rel};
-use closure_seq::SliceCopy;
-use network_words::{MAX_NODES, relation_between};
+use network_words::relation_between;
 use std::alloc::Global;
 use std::marker::Model;
 
-/// The least number of nodes for which there is room for a copy. Fewer are swept in less time than the room takes.
-const COPIED: u32 = 32;
-
-/// The number of nodes, `COPIED` or more, that have so many edges, if there is one.
-fn nodes_with(edges: u32) -> Option<u32>
-    ensures { IfSome result (λ nodes. (0 < nodes) × (nodes ≤ MAX_NODES)) }
-{
-    for nodes in COPIED..MAX_NODES + 1 {
-        if nodes * (nodes - 1) / 2 == edges {
-            return Some(nodes);
-        }
-    }
-    None
-}
-
-/// The words of all edges as a pass has seen them, in edge order. Beside them it has room for a copy on which a pass
-/// may close a slice of the edges, if they are those of `COPIED` nodes or more.
+/// The words of all edges as a pass has seen them, in edge order.
 #[derive(Debug, Drop)]
 pub struct Snapshot {
     pub(crate) words: Vec<u64>,
-    copy: Option<SliceCopy>,
 }
 
 impl Model for Snapshot {
@@ -45,55 +26,20 @@ impl Snapshot {
     ghost use Rattle.network_words.specs.Edge.{IsProperTriple};
     ghost use Rattle.network_words.specs.Network.{IsNetwork, relation_between};
 
-    /// Room for the words of this many edges, and for a copy.
+    /// A word for each of this many edges.
     pub fn new(alloc: Global, edges: u32) -> Result<Snapshot, Memory>
         ensures { IfOk result (λ snap. length snap ≡ edges) }
     {
-        let mut snap = Snapshot::plain(alloc, edges)?;
-        if let Some(nodes) = nodes_with(edges) {
-            snap.copy = Some(SliceCopy::new(alloc, nodes)?);
-        }
-        Ok(snap)
-    }
-
-    /// The same without room for a copy.
-    pub fn plain(alloc: Global, edges: u32) -> Result<Snapshot, Memory>
-        ensures { IfOk result (λ snap. length snap ≡ edges) }
-    {
         let words = vec![in alloc; 0; edges as usize].map_err(|_| Memory)?;
-        Ok(Snapshot { words, copy: None })
+        Ok(Snapshot { words })
     }
 
-    /// A snapshot of these words, without room for a copy.
+    /// A snapshot of these words.
     pub fn of(alloc: Global, words: &[u64]) -> Result<Snapshot, Memory>
         ensures { IfOk result (λ snap. snap ≡ words.now) }
     {
         let words = words.to_vec(alloc).map_err(|_| Memory)?;
-        Ok(Snapshot { words, copy: None })
-    }
-
-    /// Makes room for a copy of a network of so many nodes, if they are `COPIED` or more and there is memory for it.
-    pub fn make_room(&mut self, alloc: Global, nodes: u32)
-        requires bounded { nodes ≤ MAX_NODES }
-        ensures same { self.new ≡ self.old }
-    {
-        if nodes >= COPIED {
-            self.copy = SliceCopy::new(alloc, nodes).ok();
-        }
-    }
-
-    /// Takes the room for a copy out, if it is there.
-    pub fn take_copy(&mut self) -> Option<SliceCopy>
-        ensures { self.new ≡ self.old }
-    {
-        self.copy.take()
-    }
-
-    /// Puts the room for a copy back.
-    pub fn put_copy(&mut self, copy: SliceCopy)
-        ensures { self.new ≡ self.old }
-    {
-        self.copy = Some(copy);
+        Ok(Snapshot { words })
     }
 
     /// The words of all edges.

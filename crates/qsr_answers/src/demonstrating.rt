@@ -8,6 +8,7 @@ ghost use Rattle.qsr_answers.specs.Verdicts.{verdict_word, verdict_status};
 ghost use Rattle.qsr_answers.specs.Demonstrations.{Demonstrates, demo_head, members_in_all};
 
 use crate::answers::Answer;
+use crate::sharing::workers_for;
 use crate::solving::{verdict_line, verdict_status};
 use calculus_builtin::rcc8;
 use calculus_table::{Memory, Rel};
@@ -15,7 +16,7 @@ use closure_workers::close_parallel;
 use compose_fast::Fast;
 use geo_facts::demo_net;
 use qsr_outside::Gate;
-use qsr_words::{Demo, MAX_BUDGET, USUAL_WORKERS};
+use qsr_words::{Demo, MAX_BUDGET};
 use split_search::{Verdict, solve};
 use std::alloc::Global;
 use std::thread::Threads;
@@ -34,7 +35,8 @@ pub fn demonstration<R: Threads + Sync, G: Gate + Sync>(
 {
     let (mut net, kept) = demo_net(alloc, request.seed, request.nodes)?;
     let fast = Fast::new(alloc, &rcc8(alloc)?)?;
-    close_parallel(rt, alloc, &mut net, &fast, USUAL_WORKERS, gate)?;
+    let workers = workers_for(&net, &fast, None);
+    close_parallel(rt, alloc, &mut net, &fast, workers, gate)?;
     let verdict = solve(alloc, &net, &fast, &h8(alloc)?, MAX_BUDGET)?;
     let text = summary(alloc, request, kept, members_in_all(net.words()), &verdict)?;
     Ok(Answer {

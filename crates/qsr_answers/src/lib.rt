@@ -1,7 +1,7 @@
 //! What each command makes of its input: the text that is to be written, and the status of the run.
 //!
 //! ```text
-//! let answer = closed_answer(rt, alloc, net, &calculus, workers, &gate)?;      // the closure's text, and done or no
+//! let answer = closed_answer(rt, alloc, net, &calculus, named, &gate)?;        // the closure's text, and done or no
 //! ```
 //!
 //! The input is had from `qsr_inputs`; nothing is read here, and nothing is written.
@@ -13,6 +13,7 @@ mod closing;
 mod demonstrating;
 mod failures;
 mod relating;
+mod sharing;
 mod solving;
 mod tracing;
 

@@ -15,6 +15,7 @@ ghost use Rattle.qsr_answers.specs.Certificates.{certificate_of};
 ghost use Rattle.qsr_answers.specs.Verdicts.{HasScenario, verdict_word, verdict_status, verdict_text, answer_text};
 
 use crate::answers::Answer;
+use crate::sharing::workers_for;
 use calculus_table::{Calculus, Memory, Rel, lawful};
 use cert_file::{Cert, Claim};
 use closure_workers::close_parallel;
@@ -47,7 +48,8 @@ pub fn solved_answer<R: Threads + Sync, G: Gate + Sync>(
 {
     lawful(&guided.calculus);
     let fast = Fast::new(alloc, &guided.calculus)?;
-    close_parallel(rt, alloc, &mut net, &fast, request.workers, gate)?;
+    let workers = workers_for(&net, &fast, request.workers);
+    close_parallel(rt, alloc, &mut net, &fast, workers, gate)?;
     let verdict = solve(alloc, &net, &fast, &guided.class, request.budget)?;
     let status = verdict_status(&verdict);
     let text = answer_text(alloc, net, &guided.calculus, verdict, request.cert)?;

@@ -4,7 +4,7 @@ ghost use Rattle.std.specs.Prelude.{◌≡◌, IfOk, IfErr};
 ghost use Rattle.std.specs.String.{string_bytes};
 ghost use Rattle.qsr_words.specs.Asked.{close, solve, check, trace, relate};
 ghost use Rattle.qsr_words.specs.Requests.{close_of, solve_of, check_of, relate_of, demo_of};
-ghost use Rattle.qsr_words.specs.Requests.{AreWorkers, IsSearch, IsCheck, IsDemo};
+ghost use Rattle.qsr_words.specs.Requests.{AreWorkersIfNamed, IsSearch, IsCheck, IsDemo};
 ghost use Rattle.qsr_answers.specs.Demonstrations.{Demonstrates};
 ghost use Rattle.qsr_commands.specs.Answers.{Answers, AnswersAlone};
 
@@ -30,7 +30,7 @@ pub fn close_answer<R: Threads + Sync, F: Shelf, S: Source, G: Gate + Sync>(
     source: &mut S,
     gate: &G,
 ) -> Result<Answer, Stop>
-    requires { AreWorkers request.now.workers }
+    requires { AreWorkersIfNamed request.now.workers }
     ensures { Answers F.documents F.faults F.given F.absent_openings S.left S.faults S.given
         (close (close_of request.now)) shelf.old shelf.new source.old source.new result }
 {

@@ -35,7 +35,7 @@ polygons_known : (c : List ℕ) (p : Option (List ℕ)) → IfSome (polygons_ask
 polygons_known c None = none_fits (bytes_eq c (codes "rcc8"))
 polygons_known c (Some word) = named_fits (not (length word == 0)) (polygons_fit c (Some word)) (Some word) _ (λ e. e)
 
-over_known : (c : List ℕ) (k : Option (List ℕ)) (p : Option (Option (List ℕ))) (b w : Option ℕ) (t : Bool) → IfSome k (λ v. class_fits c v ≡ true) →
+over_known : (c : List ℕ) (k : Option (List ℕ)) (p : Option (Option (List ℕ))) (b : Option ℕ) (w : Option (Option ℕ)) (t : Bool) → IfSome k (λ v. class_fits c v ≡ true) →
     IfSome p (λ v. polygons_fit c v ≡ true) → IfSome (solve_over c k p b w t) FitsSolve
 over_known c None p b w t h g = tt
 over_known c (Some k) None b w t h g = tt
@@ -43,7 +43,7 @@ over_known c (Some k) (Some p) None w t h g = tt
 over_known c (Some k) (Some p) (Some b) None t h g = tt
 over_known c (Some k) (Some p) (Some b) (Some w) t h g = (h, g)
 
-with_known : (c k p : Option (List ℕ)) (b w : Option ℕ) (t : Bool) → IfSome (solve_with c k p b w t) FitsSolve
+with_known : (c k p : Option (List ℕ)) (b : Option ℕ) (w : Option (Option ℕ)) (t : Bool) → IfSome (solve_with c k p b w t) FitsSolve
 with_known None k p b w t = tt
 with_known (Some c) k p b w t = over_known c (class_asked c k) (polygons_asked c p) b w t (class_known c k) (polygons_known c p)
 

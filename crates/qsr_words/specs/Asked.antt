@@ -21,10 +21,15 @@ abbrev pub number_within : ℕ → ℕ → List ℕ → Option ℕ
 number_within least most word =
     option_and_then (λ n. if nat_le least n && nat_le n most then Some n else None) (number_of word)
 
+-- the number of workers that a word names, and none where there is no word
+abbrev pub workers_asked : Option (List ℕ) → Option (Option ℕ)
+workers_asked None = Some None
+workers_asked (Some word) = option_map Some (number_within MIN_WORKERS MAX_WORKERS word)
+
 -- the number of workers that a word names, or the usual one where there is no word
-abbrev pub workers_asked : Option (List ℕ) → Option ℕ
-workers_asked None = Some USUAL_WORKERS
-workers_asked (Some word) = number_within MIN_WORKERS MAX_WORKERS word
+abbrev pub workers_beside : Option (List ℕ) → Option ℕ
+workers_beside None = Some USUAL_WORKERS
+workers_beside (Some word) = number_within MIN_WORKERS MAX_WORKERS word
 
 -- the budget of splits that a word names, or the usual one where there is no word
 abbrev pub budget_asked : Option (List ℕ) → Option ℕ
@@ -103,18 +108,18 @@ asked_with app by_values words = if length (fault_of app words) == 0 then by_val
 
 -- ---- close
 
--- to close the network of the source, over the calculus of a word
+-- to close the network of the source, over the calculus of a word, by a number of workers where one is named
 pub record CloseAsked : Type 0 where
   pub calculus : List ℕ
-  pub workers : ℕ
+  pub workers : Option ℕ
 
 -- the words of `close`: its name, a calculus, and `--workers` with a number
 abbrev pub close_app : App
 close_app =
     with_rule (with_rule (new_app (codes "close")) (word_rule (codes "calculus"))) (option_rule (codes "workers"))
 
--- with a calculus and a number of workers, where there are both
-abbrev pub close_with : Option (List ℕ) → Option ℕ → Option CloseAsked
+-- with a calculus, where there is one, and a number of workers or none
+abbrev pub close_with : Option (List ℕ) → Option (Option ℕ) → Option CloseAsked
 close_with calculus workers =
     option_and_then (λ c. option_map (λ w. record { calculus = c; workers = w }) workers) calculus
 
@@ -127,13 +132,13 @@ close_asked = asked_with close_app close_by
 -- ---- solve
 
 -- to search for a scenario of the network of the source and of the polygons, over the calculus of a word, guided by the
--- class of a word, with a verdict or a certificate for an answer
+-- class of a word, after workers whose number may be named, with a verdict or a certificate for an answer
 pub record SolveAsked : Type 0 where
   pub calculus : List ℕ
   pub class : List ℕ
   pub polygons : Option (List ℕ)
   pub budget : ℕ
-  pub workers : ℕ
+  pub workers : Option ℕ
   pub is_cert : Bool
 
 -- the words of `solve`: its name, a calculus, `--class`, `--polygons`, `--budget` and `--workers` with a value each,
@@ -145,8 +150,9 @@ solve_app =
     (option_rule (codes "polygons"))) (option_rule (codes "budget"))) (option_rule (codes "workers")))
     (flag_rule (codes "cert"))
 
--- over a calculus, with a class and polygons that fit it, a budget and a number of workers, where there are all of them
-abbrev pub solve_over : List ℕ → Option (List ℕ) → Option (Option (List ℕ)) → Option ℕ → Option ℕ → Bool
+-- over a calculus, with a class and polygons that fit it, a budget and a number of workers or none, where there are all
+-- of them
+abbrev pub solve_over : List ℕ → Option (List ℕ) → Option (Option (List ℕ)) → Option ℕ → Option (Option ℕ) → Bool
     → Option SolveAsked
 solve_over calculus class polygons budget workers is_cert =
     option_and_then (λ k. option_and_then (λ p. option_and_then (λ b. option_map (λ w. record {
@@ -158,7 +164,7 @@ solve_over calculus class polygons budget workers is_cert =
       is_cert = is_cert;
     }) workers) budget) polygons) class
 
-abbrev pub solve_with : Option (List ℕ) → Option (List ℕ) → Option (List ℕ) → Option ℕ → Option ℕ → Bool
+abbrev pub solve_with : Option (List ℕ) → Option (List ℕ) → Option (List ℕ) → Option ℕ → Option (Option ℕ) → Bool
     → Option SolveAsked
 solve_with calculus class polygons budget workers is_cert = option_and_then (λ c.
     solve_over c (class_asked c class) (polygons_asked c polygons) budget workers is_cert) calculus
@@ -247,7 +253,7 @@ serve_with calculus nodes workers = option_and_then (λ c. option_and_then (λ n
 abbrev pub serve_by : List Row → Option ServeAsked
 serve_by found =
     serve_with (first_of (codes "calculus") found) (served_nodes_asked (first_of (codes "nodes") found))
-    (workers_asked (first_of (codes "workers") found))
+    (workers_beside (first_of (codes "workers") found))
 
 abbrev pub serve_asked : List (List ℕ) → Option ServeAsked
 serve_asked = asked_with serve_app serve_by

@@ -1,5 +1,5 @@
 -- Requests as the definitions see them.
-use Rattle.std.specs.Prelude.{◌≡◌, ℕ, ◌≤◌, ⊤, true, Option, Some, None, option_map}
+use Rattle.std.specs.Prelude.{◌≡◌, ℕ, ◌≤◌, ⊤, true, Option, Some, None, IfSome, option_map}
 use Rattle.std.specs.String.{string_bytes}
 use Rattle.qsr_words.specs.Asked.{Asked, CloseAsked, SolveAsked, CheckAsked, RelateAsked, ServeAsked, DemoAsked}
 use Rattle.qsr_words.specs.Asked.{close, solve, check, trace, relate, serve, demo, class_fits, polygons_fit}
@@ -58,12 +58,16 @@ asked_of request.Usage = None
 abbrev pub AreWorkers : ℕ → Type 0
 AreWorkers workers = (MIN_WORKERS ≤ workers) × (workers ≤ MAX_WORKERS)
 
--- a search with a class and polygons that fit the calculus, and a budget and workers within the limits
+-- so many workers as a command takes, where a number of them is named
+abbrev pub AreWorkersIfNamed : Option ℕ → Type 0
+AreWorkersIfNamed named = IfSome named AreWorkers
+
+-- a search with a class and polygons that fit the calculus, and a budget and named workers within the limits
 pub record IsSearch (asked : SolveAsked) : Type 0 where
   pub fits : class_fits asked.calculus asked.class ≡ true
   pub polygons : polygons_fit asked.calculus asked.polygons ≡ true
   pub budget : asked.budget ≤ MAX_BUDGET
-  pub workers : AreWorkers asked.workers
+  pub workers : AreWorkersIfNamed asked.workers
 
 -- a certificate to check or to trace, with polygons that fit the calculus
 pub record IsCheck (asked : CheckAsked) : Type 0 where
@@ -95,7 +99,7 @@ FitsCalculus (Some (demo asked)) = ⊤
 
 -- the request is within the limits of its command
 abbrev pub IsWithinLimits : Request → Type 0
-IsWithinLimits (request.Close c) = AreWorkers c.workers
+IsWithinLimits (request.Close c) = AreWorkersIfNamed c.workers
 IsWithinLimits (request.Solve s) = IsSearch (solve_of s)
 IsWithinLimits (request.Check c) = IsCheck (check_of c)
 IsWithinLimits (request.Trace c) = IsCheck (check_of c)

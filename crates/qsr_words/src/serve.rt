@@ -7,7 +7,7 @@ ghost use Rattle.qsr_words.specs.Found.{values_of};
 ghost use Rattle.qsr_words.specs.Requests.{serve_of, AreServed};
 
 use crate::command::{found, option, value, word};
-use crate::values::{served_nodes, workers};
+use crate::values::{served_nodes, workers_beside};
 use calculus_table::Memory;
 use clap::{ArgMatches, Command};
 use std::alloc::{AllocError, Global};
@@ -19,7 +19,7 @@ pub struct Serve {
     pub calculus: String,
     /// How many nodes the network has, from 1 to 256.
     pub nodes: u32,
-    /// How many workers narrow the network beside the sessions, from 1 to 64.
+    /// How many workers narrow the network beside the sessions, and how many sessions go on at once, from 1 to 64.
     pub workers: u32,
 }
 
@@ -49,7 +49,7 @@ fn request(alloc: Global, found: &ArgMatches<'_>) -> Result<Option<Serve>, Memor
     let Some(nodes) = served_nodes(value(found, "nodes")) else {
         return Ok(None);
     };
-    let Some(workers) = workers(value(found, "workers")) else {
+    let Some(workers) = workers_beside(value(found, "workers")) else {
         return Ok(None);
     };
     let Ok(calculus) = String::from_str(alloc, calculus) else {

@@ -26,8 +26,8 @@ pub struct Solve {
     pub polygons: Option<String>,
     /// How many splits may be made, at most 10,000.
     pub budget: u32,
-    /// How many workers close the network first, from 1 to 64.
-    pub workers: u32,
+    /// How many workers close the network first, from 1 to 64, where the words name a number.
+    pub workers: Option<u32>,
     /// Whether the answer is a certificate, and not a verdict.
     pub cert: bool,
 }
@@ -39,7 +39,7 @@ struct Values<'a> {
     class: &'a str,
     polygons: Option<&'a str>,
     budget: u32,
-    workers: u32,
+    workers: Option<u32>,
     cert: bool,
 }
 

@@ -1,11 +1,11 @@
 //! The values of the commands' options, and the usual ones where the words name none.
 ghost use Rattle.std.specs.Prelude.{◌≡◌, ◌≤◌, true, IfOk, IfSome, option_map};
 ghost use Rattle.std.specs.String.{string_bytes};
-ghost use Rattle.qsr_words.specs.Asked.{number_within, workers_asked, budget_asked, is_rcc8_class};
-ghost use Rattle.qsr_words.specs.Asked.{class_fits, class_asked, usual_class, polygons_fit};
+ghost use Rattle.qsr_words.specs.Asked.{number_within, workers_asked, workers_beside, budget_asked};
+ghost use Rattle.qsr_words.specs.Asked.{is_rcc8_class, class_fits, class_asked, usual_class, polygons_fit};
 ghost use Rattle.qsr_words.specs.Asked.{polygons_asked, seed_asked, nodes_asked, served_nodes_asked};
 ghost use Rattle.qsr_words.specs.Asked.{is_flag_there};
-ghost use Rattle.qsr_words.specs.Requests.{AreWorkers};
+ghost use Rattle.qsr_words.specs.Requests.{AreWorkers, AreWorkersIfNamed};
 
 use crate::{
     MAX_BUDGET, MAX_DEMO_NODES, MAX_SEED, MAX_SERVED_NODES, MAX_WORKERS, MIN_DEMO_NODES,
@@ -27,9 +27,20 @@ fn number_within(word: &str, least: u32, most: u32) -> Option<u32>
     }
 }
 
-/// The number of workers that a word names, or the usual one where there is no word.
-pub(crate) fn workers(word: Option<&str>) -> Option<u32>
+/// The number of workers that a word names, and none where there is no word.
+pub(crate) fn workers(word: Option<&str>) -> Option<Option<u32>>
     ensures value { result ≡ workers_asked (option_map (λ text. text.now) word.entry) }
+    ensures within { IfSome result AreWorkersIfNamed }
+{
+    match word {
+        Some(word) => Some(Some(number_within(word, MIN_WORKERS, MAX_WORKERS)?)),
+        None => Some(None),
+    }
+}
+
+/// The number of workers beside sessions that a word names, or the usual one where there is no word.
+pub(crate) fn workers_beside(word: Option<&str>) -> Option<u32>
+    ensures value { result ≡ workers_beside (option_map (λ text. text.now) word.entry) }
     ensures within { IfSome result AreWorkers }
 {
     match word {

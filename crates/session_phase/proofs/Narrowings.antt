@@ -17,7 +17,7 @@ use Rattle.network_words.proofs.Meets.{length-narrowed_by, narrowed_by-within}
 use Rattle.narrow_core.specs.Bound.{IsWithinFact}
 use Rattle.narrow_core.specs.Machine.{IsProperFact}
 use Rattle.narrow_core.proofs.Sights.{facts-mono}
-use Rattle.session_phase.specs.Phase.{AreNarrowed, IsClosureWithin}
+use Rattle.closure_workers.specs.Rounds.{IsClosureWithin}
 
 -- ---- words narrowed by facts
 
@@ -44,17 +44,6 @@ narrowed_by-facts m n words (f ∷ facts) calculus net p =
     (narrowed_by-facts m n next facts calculus (IsNetwork-narrowed_at m n words f.i f.j f.rel net) (All-tail (IsProperFact n (full_of m)) f facts p))
 
 -- ---- the closure
-
--- the closure of what was narrowed
-pub IsClosureWithin-closed : (m : Algebra) (n : ℕ) (words narrowed closure : List ℕ) (facts : List Fact) → AreNarrowed m n words facts narrowed → IsClosure m n narrowed closure →
-    IsClosureWithin m n words facts closure
-IsClosureWithin-closed m n words narrowed closure facts a c = record {
-  network = IsNetwork-refines m n closure narrowed a.network c.length_is c.within;
-  closed = c.closed;
-  within = Refines-trans closure narrowed words c.within a.within;
-  within_facts = facts-mono m n closure narrowed facts c.within a.within_facts;
-  greatest = λ other net closed w f. c.greatest other (net.length_is ∙ sym a.network.length_is) closed (a.greatest other net closed w f);
-}
 
 -- it is the closure of the words narrowed by the facts
 pub IsClosure-within : (m : Algebra) (n : ℕ) (words closure : List ℕ) (facts : List Fact) → IsCalculus m → IsNetwork m n words → All (IsProperFact n (full_of m)) facts →

@@ -23,13 +23,17 @@ pub length-asked_of_sessions : (sessions : List Session) → length (asked_of_se
 length-asked_of_sessions [] = refl
 length-asked_of_sessions (s ∷ ss) = omega (arith, length-append (asked_of_sessions ss) (asked_by s.steps.items ∷ []), length-asked_of_sessions ss)
 
--- a session that asks for the same in the place of one
-pub asked_of_sessions-set : (sessions : List Session) (k : ℕ) (session d : Session) → k < length sessions → asked_by session.steps.items ≡ asked_by (get_or sessions k d).steps.items →
-    asked_of_sessions (set sessions k session) ≡ asked_of_sessions sessions
-asked_of_sessions-set [] k session d b e = absurd (omega arith)
-asked_of_sessions-set (s ∷ ss) zero session d b e = ap (λ (x : List (ℕ × What)). asked_of_sessions ss ++ x ∷ []) e
-asked_of_sessions-set (s ∷ ss) (suc k) session d b e =
-    ap (λ (xs : List (List (ℕ × What))). xs ++ asked_by s.steps.items ∷ []) (asked_of_sessions-set ss k session d (omega arith) e)
+-- sessions that each ask for the same
+pub asked_of_sessions-each : (xs ys : List Session) → length ys ≡ length xs
+    → ((k : ℕ) (d : Session) → k < length xs → asked_by (get_or ys k d).steps.items ≡ asked_by (get_or xs k d).steps.items) →
+    asked_of_sessions ys ≡ asked_of_sessions xs
+asked_of_sessions-each [] [] l e = refl
+asked_of_sessions-each [] (y ∷ ys) l e = absurd (omega arith)
+asked_of_sessions-each (x ∷ xs) [] l e = absurd (omega arith)
+asked_of_sessions-each (x ∷ xs) (y ∷ ys) l e =
+    let rest : asked_of_sessions ys ≡ asked_of_sessions xs = asked_of_sessions-each xs ys (omega arith) (λ k d b. e (suc k) d (omega arith)) in
+    let first : asked_by y.steps.items ≡ asked_by x.steps.items = e zero x (omega arith) in
+    ap (λ (asked : List (List (ℕ × What))). asked ++ asked_by y.steps.items ∷ []) rest ∙ ap (λ (a : List (ℕ × What)). asked_of_sessions xs ++ a ∷ []) first
 
 pub facts_asked-append : (xs ys : List (List (ℕ × What))) → facts_asked (xs ++ ys) ≡ facts_asked xs ++ facts_asked ys
 facts_asked-append [] ys = refl
@@ -71,17 +75,3 @@ asked_of-kept lines left session old items =
     let asked : List (ℕ × What) = asked_by session.steps.items in
     ap (λ (xs : Asked). xs ++ asked_of_sessions left) (map-append asked_by lines (session.steps.items ∷ [])) ∙ append_assoc (asked_of lines) (asked ∷ []) (asked_of_sessions left)
     ∙ ap (λ (xs : Asked). asked_of lines ++ xs) (sym (asked_of_sessions-push left session) ∙ ap asked_of_sessions (sym items))
-
--- ---- the session at a place, of which those before it have run
-
--- what has not run yet is as it was
-pub not_run_yet : (old now : List Session) (k : ℕ) (d : Session) → k < length now → length now ≡ length old → drop k now ≡ drop k old →
-    (get_or now k d ≡ get_or old k d) × (drop (k + 1) now ≡ drop (k + 1) old)
-not_run_yet old now k d b l rest =
-    let here : drop k now ≡ get_or now k d ∷ drop (k + 1) now = rw add-one (drop-cons now k d b) in
-    let there : drop k old ≡ get_or old k d ∷ drop (k + 1) old = rw add-one (drop-cons old k d (omega arith)) in
-    (cc, cc)
-
--- one more has run
-pub All-run_more : (P : Session → Type 0) (now : List Session) (k : ℕ) (session : Session) → k < length now → All P (take k now) → P session → All P (take (k + 1) (set now k session))
-All-run_more P now k session b h p = subst (All P) (sym (take_more_set now k session b)) (All-push P (take k now) session h p)

@@ -1,24 +1,20 @@
 -- What sessions state and see while they narrow the words of one table at once with workers, and the closure that comes of it.
-use Rattle.std.specs.Prelude.{◌≡◌, ℕ, ◌<◌, ◌≤◌, ◌^◌, List, [], ◌∷◌, ◌++◌, length, map, Vec, MatchBool}
+use Rattle.std.specs.Prelude.{◌≡◌, ℕ, ◌<◌, List, [], ◌∷◌, ◌++◌, length, map, Vec}
 use Rattle.std.specs.Global.{Global}
 use Rattle.std.specs.List.{All}
 use Rattle.calculus_table.specs.Algebra.{Algebra}
 use Rattle.calculus_table.specs.Composition.{full_of}
 use Rattle.network_words.specs.declared.fact.Fact.{Fact}
-use Rattle.network_words.specs.Edge.{edge_count}
 use Rattle.network_words.specs.Network.{IsNetwork, Refines}
-use Rattle.network_words.specs.Closure.{IsClosed}
-use Rattle.closure_seq.specs.Paths.{IsClosedNetwork}
 use Rattle.narrow_core.specs.Actor.{ActorState, fresh}
-use Rattle.narrow_core.specs.Bound.{IsWithinFact}
 use Rattle.edge_table.specs.Opening.{OpenState, IsPassOf, algebra_of}
-use Rattle.edge_slices.specs.Slices.{IsHeld}
 use Rattle.session_scripts.specs.declared.batch.What.{What}
 use Rattle.session_scripts.specs.declared.batch.What.TheVariants.{Assert, Peek, Withdraw, Ask, Refused}
 use Rattle.session_scripts.specs.Batches.{IsAsked}
 use Rattle.session_phase.specs.declared.steps.Step.{Step}
 use Rattle.session_phase.specs.declared.sessions.Session.{Session}
-use Rattle.session_phase.specs.declared.pieces.Piece.{Piece}
+use Rattle.closure_workers.specs.declared.worker.Worker.{Worker}
+use Rattle.closure_workers.specs.Workers.{IsWorker}
 use Rattle.session_replies.specs.Replies.{IsShown, told_after, AreShown}
 
 -- ---- steps of sessions
@@ -94,7 +90,7 @@ pub record AreTaken (m : Algebra) (n : ℕ) (asked : List (ℕ × What)) (old ne
   pub told : Refines new.seen (told_by m n old.seen (shown_by taken))
   pub shown : AreShownAbove m n old.seen new.seen taken
 
--- ---- sessions and pieces
+-- ---- sessions and workers
 
 -- what the steps of sessions ask for, that of the last session first
 abbrev pub asked_of_sessions : List Session → List (List (ℕ × What))
@@ -103,6 +99,7 @@ asked_of_sessions (s ∷ ss) = asked_of_sessions ss ++ asked_by s.steps.items �
 
 -- a session that has not run: its pass has one part of the weight, has stated nothing and has seen just the opening
 pub record IsReady (table : OpenState) (session : Session) : Type 0 where
+  pub few : session.number < 64
   pub pass : IsPassOf table session.pass
   pub actor : session.pass.actor ≡ fresh 1 table.opening.words
   pub steps : All (IsStepFor (full_of (algebra_of table.opening)) table.opening.nodes) session.steps.items
@@ -114,65 +111,19 @@ pub record HasRun (m : Algebra) (table : OpenState) (session : Session) : Type 0
   pub facts : session.pass.actor.mine ≡ facts_of_session (asked_by session.steps.items)
   pub shown : AreShownAbove m table.opening.nodes table.opening.words session.pass.actor.seen session.steps.items
 
--- a session before or after it has run
-abbrev pub IsSession : Algebra → OpenState → Session → Type 0
-IsSession m table session = MatchBool session.has_run (HasRun m table session) (IsReady table session)
-
--- a piece before its work: its pass has one part of the weight, has stated nothing and has seen just the opening, and its
--- range is one of the edges
-pub record IsPiece (table : OpenState) (piece : Piece) : Type 0 where
-  pub pass : IsPassOf table piece.pass
-  pub actor : piece.pass.actor ≡ fresh 1 table.opening.words
-  pub few : piece.number < 2 ^ 16
-  pub size : length piece.snap ≡ edge_count table.opening.nodes
-  pub order : piece.from ≤ piece.to
-  pub below : piece.to ≤ edge_count table.opening.nodes
-
--- and after it: its pass has stated nothing, and its copy may be held for the closing
-pub record HasWorked (m : Algebra) (table : OpenState) (piece : Piece) : Type 0 where
-  pub pass : IsPassOf table piece.pass
-  pub weight : piece.pass.actor.weight ≡ 1
-  pub facts : piece.pass.actor.mine ≡ []
-  pub held : IsHeld m piece.copy
-
 -- sessions that may be run, on a table over a network
 pub record CanRun (m : Algebra) (table : OpenState) (before : List Session) : Type 0 where
   pub calculus : m ≡ algebra_of table.opening
   pub opening : IsNetwork m table.opening.nodes table.opening.words
-  pub sessions : All (IsSession m table) before
+  pub sessions : All (IsReady table) before
 
 -- the same sessions, all run
 pub record HaveRun (m : Algebra) (table : OpenState) (before after : List Session) : Type 0 where
   pub run : All (HasRun m table) after
   pub asked : asked_of_sessions after ≡ asked_of_sessions before
 
--- pieces that may work, on copies of the closed network of these words
-pub record CanWork (m : Algebra) (table : OpenState) (words : List ℕ) (before : List Piece) : Type 0 where
+-- workers of the table who may work
+pub record CanWork (m : Algebra) (table : OpenState) (before : List Worker) : Type 0 where
   pub calculus : m ≡ algebra_of table.opening
-  pub closed : IsClosedNetwork m table.opening.nodes words
   pub some : 0 < length before
-  pub pieces : All (IsPiece table) before
-
--- as many pieces, after their work
-pub record HaveWorked (m : Algebra) (table : OpenState) (before after : List Piece) : Type 0 where
-  pub worked : All (HasWorked m table) after
-  pub count : length after ≡ length before
-
--- ---- what comes of it
-
--- a network within words and within each of the facts, which contains every closed one
-pub record AreNarrowed (m : Algebra) (n : ℕ) (words : List ℕ) (facts : List Fact) (narrowed : List ℕ) : Type 0 where
-  pub network : IsNetwork m n narrowed
-  pub within : Refines narrowed words
-  pub within_facts : All (IsWithinFact m n narrowed) facts
-  pub greatest :
-      (other : List ℕ) → IsNetwork m n other → IsClosed m n other → Refines other words → All (IsWithinFact m n other) facts → Refines other narrowed
-
--- the greatest closed network within words and within each of the facts, whose order plays no part
-pub record IsClosureWithin (m : Algebra) (n : ℕ) (words : List ℕ) (facts : List Fact) (closure : List ℕ) : Type 0 where
-  pub network : IsNetwork m n closure
-  pub closed : IsClosed m n closure
-  pub within : Refines closure words
-  pub within_facts : All (IsWithinFact m n closure) facts
-  pub greatest :
-      (other : List ℕ) → IsNetwork m n other → IsClosed m n other → Refines other words → All (IsWithinFact m n other) facts → Refines other closure
+  pub workers : All (IsWorker table) before

@@ -10,8 +10,6 @@
 #![tactic(auto)]
 
 mod phase;
-mod pieces;
-mod points;
 mod sessions;
 mod steps;
 

@@ -28,7 +28,8 @@ use Rattle.session_scripts.specs.Batches.{BatchState, HasSession, IsLineFor, IsB
 use Rattle.session_phase.specs.declared.steps.Step.{Step}
 use Rattle.session_replies.specs.Replies.{AreShown, ArePeeks, said_by, IsOpening, staying, draft_of, facts_of_lines}
 use Rattle.session_replies.specs.Drafting.{LosesFacts, GainsFacts}
-use Rattle.session_phase.specs.Phase.{steps_of, asked_of, shown_by, facts_asked, IsClosureWithin}
+use Rattle.session_phase.specs.Phase.{steps_of, asked_of, shown_by, facts_asked}
+use Rattle.closure_workers.specs.Rounds.{IsClosureWithin}
 use Rattle.session_run.specs.Steps.{AreDealt}
 use Rattle.session_run.proofs.Dealt.{length-asked_of}
 use Rattle.session_phase.proofs.Narrowings.{IsClosure-within}

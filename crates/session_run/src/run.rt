@@ -9,7 +9,7 @@ ghost use Rattle.network_words.specs.Closure.{IsClosed};
 ghost use Rattle.session_versions.specs.Stores.{IsStore};
 ghost use Rattle.session_scripts.specs.Batches.{IsBatchFor};
 ghost use Rattle.session_replies.specs.Drafting.{LosesFacts, GainsFacts};
-ghost use Rattle.session_phase.specs.Phase.{IsClosureWithin};
+ghost use Rattle.closure_workers.specs.Rounds.{IsClosureWithin};
 ghost use Rattle.session_replies.specs.Replies.{withdrawal_faults, facts_of_lines, draft_of, staying, drafted};
 ghost use Rattle.session_replies.specs.Replies.{IsOpening, ArePeeks, IsAnswered};
 
@@ -111,8 +111,7 @@ fn begin<C: Compose>(alloc: Global, store: &Store, batch: &Batch, c: &C) -> Resu
 }
 
 /// Closes the network, which lies within a closed one, with the facts of a batch, by its sessions and the workers at
-/// once. Returns the set that each line shows. If memory runs out the network may be between what it was and the
-/// closure.
+/// once. Returns the set that each line shows. If memory runs out the network may be the closure already.
 fn narrowed<R: Threads + Sync, C: Compose + Sync, G: Gate + Sync>(
     rt: &R,
     alloc: Global,
@@ -129,7 +128,7 @@ fn narrowed<R: Threads + Sync, C: Compose + Sync, G: Gate + Sync>(
     requires batch { IsBatchFor (full_of (C.algebra c.now)) net.old.nodes batch.now }
     requires some { 0 < workers }
     requires few { workers ≤ 64 }
-    ensures rest { net.new ≡ record net.old { words = net.new.words } }
+    ensures rest { OnOk result (net.new ≡ record net.old { words = net.new.words }) }
     ensures closure { OnOk result (IsClosureWithin (C.algebra c.now) net.old.nodes net.old.words
         (facts_of_lines batch.now.lines) net.new.words) }
     ensures each_line { IfOk result (λ shown. length shown.items ≡ length batch.now.lines) }

@@ -2,7 +2,7 @@
 //! closed networks, beside each level closed anew.
 ghost use Rattle.std.specs.Prelude.{◌<◌, IsTrue};
 ghost use Rattle.network_words.specs.Edge.{IsProperTriple};
-ghost use Rattle.closure_seq.specs.Copies.{IsSettledCopy};
+ghost use Rattle.slice_copy.specs.Copies.{IsSettledCopy};
 
 use crate::asserts::assert_same;
 use crate::nets::{
@@ -10,9 +10,10 @@ use crate::nets::{
 };
 use calculus_builtin::{allen, point, rcc8};
 use calculus_table::{Calculus, Compose, Memory, Rel};
-use closure_seq::{Change, ClosedPath, Note, SliceCopy, Work, close, close_with};
+use closure_seq::{Change, ClosedPath, Work, close, close_with};
 use compose_fast::Fast;
 use network_words::Net;
+use slice_copy::{Note, SliceCopy};
 use std::alloc::Global;
 use std::mem;
 use std::process::Abort;

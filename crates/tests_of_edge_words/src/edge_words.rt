@@ -9,7 +9,7 @@ use crate::asserts::assert_same;
 use calculus_builtin::rcc8;
 use calculus_table::{Calculus, Compose, Memory, Rel};
 use closure_seq::close;
-use edge_table::{OpenNet, Pass, Snapshot, open};
+use edge_table::{ClosedTable, OpenNet, Pass, Snapshot, open};
 use network_words::{Fact, Net};
 use std::alloc::Global;
 use std::process::Abort;
@@ -168,20 +168,22 @@ fn opened_for_two(
     Some((table, passes))
 }
 
-/// The words that the table is closed with, if the pass has this weight, which is the whole.
-fn closed(alloc: Global, table: OpenNet, pass: Pass, weight: u32) -> Option<Net>
+/// The words that the table is closed with, and its token, if the pass has this weight, which is the whole.
+fn closed(alloc: Global, table: OpenNet, pass: Pass, weight: u32) -> Option<(Net, ClosedTable)>
     requires pass { IsPassOf table pass }
     requires whole { table.opening.weight ≡ weight }
-    ensures { IfSome result
-        (λ net. IsNetwork (algebra_of table.opening) net.nodes net.words) }
+    ensures network { IfSome result
+        (λ t. IsNetwork (algebra_of table.opening) t.0.nodes t.0.words) }
+    ensures token { IfSome result
+        (λ t. (t.1.opening ≡ table.opening) × (t.1.pass ≡ pass) × (t.1.words ≡ t.0.words)) }
 {
     let nodes = table.nodes();
     let mut net = Net::new(alloc, nodes, Rel::EMPTY).ok()?;
     if pass.weight() != weight || net.nodes() != nodes {
         return None;
     }
-    table.close(pass, &mut net);
-    Some(net)
+    let token = table.close(pass, &mut net);
+    Some((net, token))
 }
 
 /// What a pass sees of the edge from 0 to 2 of three nodes: whether it sees less of it by narrowing
@@ -217,7 +219,8 @@ fn narrowed_after_two<R: Threads + Sync>(
     let (first, second) = in_two_threads(rt, &table, c, passes);
     let mut pass = table.join(first, second);
     let found = narrow_twice(&table, &mut pass, c, snap)?;
-    Some((found, closed(alloc, table, pass, 2)?))
+    let (net, _) = closed(alloc, table, pass, 2)?;
+    Some((found, net))
 }
 
 /// Fails unless the narrowing finds the composition of the two facts at once, and closes the words.
@@ -315,7 +318,7 @@ fn state_and_look(
     let less = table.refresh_again(&mut third, snap);
     let same = table.refresh_again(&mut third, snap);
     state(table, &mut first, c, fact(0, 2, EC));
-    let (edge, set) = table.next_less(&mut third, snap, 0, 3)?;
+    let (edge, set) = table.next_lesser(&mut third, snap, 0, 3)?;
     Some((rel.word(), less, same, (edge, set.word())))
 }
 
@@ -333,14 +336,16 @@ fn passes_see_what_others_state(rt: HostRuntime) -> Result<(), Fail> {
 fn cut_and_joined(alloc: Global, c: &Calculus) -> Option<Net> {
     let (table, (first, second)) = opened_for_two(alloc, c, 1, 2, 1)?;
     let pass = table.join(first, second);
-    closed(alloc, table, pass, 2)
+    let (net, _) = closed(alloc, table, pass, 2)?;
+    Some(net)
 }
 
 /// A table of two nodes, closed after this fact.
 fn closed_after(alloc: Global, c: &Calculus, fact: Fact) -> Option<Net> {
     let (table, mut pass) = opened(alloc, c, 2, 1).ok()?;
     state(&table, &mut pass, c, fact);
-    closed(alloc, table, pass, 1)
+    let (net, _) = closed(alloc, table, pass, 1)?;
+    Some(net)
 }
 
 /// Fails unless a table was closed with these words.
@@ -432,7 +437,8 @@ fn narrowed_by_threads<R: Threads + Sync>(
     let first = cut(&table, first, 1)?;
     let second = cut(&table, second, 1)?;
     let pass = by_four(rt, &table, c, first, second, facts);
-    closed(alloc, table, pass, 4)
+    let (net, _) = closed(alloc, table, pass, 4)?;
+    Some(net)
 }
 
 /// Those words, closed once more.
@@ -512,8 +518,9 @@ fn is_sent<T: Send>() {}
 fn is_shared<T: Send + Sync>() {}
 
 #[test]
-fn tables_are_shared_and_passes_sent() {
+fn tables_and_tokens_are_shared_and_passes_sent() {
     is_shared::<OpenNet>();
+    is_shared::<ClosedTable>();
     is_sent::<Pass>();
     is_sent::<Snapshot>();
 }

@@ -30,26 +30,47 @@ impl Gate for CountingGate {
     }
 }
 
-/// Runs up to this end, at which the gate was never passed.
-fn expect_no_pass<R: Threads + Sync + Abort + AllocGlobal>(
+/// How a run ends, and how often it passes the gate.
+fn passes<R: Threads + Sync + Abort + AllocGlobal>(
     rt: &R,
     words: &[&str],
     source: &[u8],
-    status: Status,
-) -> Result<(), Fail> {
+) -> Result<(Status, u64), Fail> {
     let gate = CountingGate {
         passes: AtomicU64::new(0),
     };
     let (ended, _) = ran(rt, words, source, &[], &[], &gate)?;
-    assert_same(rt, ended, status);
-    assert_same(rt, gate.passes.load(Ordering::SeqCst), 0);
-    Ok(())
+    Ok((ended, gate.passes.load(Ordering::SeqCst)))
 }
 
 #[test]
 fn the_gate_is_not_passed_where_no_worker_runs(rt: HostRuntime) -> Result<(), Fail> {
-    expect_no_pass(&rt, CLOSE, b"", refused(20, 0))?;
-    expect_no_pass(&rt, &["help"], b"nodes 1\n.\n", Status::Usage)
+    let ended = passes(&rt, CLOSE, b"")?;
+    assert_same(&rt, ended, (refused(20, 0), 0));
+    let ended = passes(&rt, &["help"], b"nodes 1\n.\n")?;
+    assert_same(&rt, ended, (Status::Usage, 0));
+    Ok(())
+}
+
+/// Words that close a network of three nodes or make one, and how often they pass the gate: twice for each worker.
+const WORKERS: [(&[&str], u64); 8] = [
+    (&["close", "rcc8"], 2),
+    (&["close", "rcc8", "--workers", "1"], 2),
+    (&["close", "rcc8", "--workers", "2"], 4),
+    (&["close", "rcc8", "--workers=64"], 6),
+    (&["solve", "point"], 2),
+    (&["solve", "point", "--workers", "3"], 6),
+    (&["solve", "allen", "--workers=2", "--cert"], 4),
+    (&["demo", "7", "3"], 2),
+];
+
+#[test]
+fn as_many_workers_as_are_named_close_a_network(rt: HostRuntime) -> Result<(), Fail> {
+    for (words, count) in WORKERS {
+        let ended = passes(&rt, words, b"nodes 3\n.\n")?;
+        assert_same_in(&rt, ended, (Status::Done, count), words);
+    }
+    Ok(())
 }
 
 /// Runs at the gate to the end of the answer: the text that is written.
@@ -104,48 +125,72 @@ fn two_workers_begin_before_either_ends(rt: HostRuntime) -> Result<(), Fail> {
     Ok(())
 }
 
-/// A gate that holds a point until another one was passed, for a number of turns at most.
+/// The bit of a point of one of the first eight workers or sessions.
+fn bit_of(point: u32) -> u64 {
+    1 << (point / 1000 % 4 * 8 + point % 1000 % 8)
+}
+
+/// A gate that holds points, each until another one was reached, for a number of turns at most.
 #[derive(Drop)]
-struct Holding {
-    held: u32,
-    until: u32,
-    passed: AtomicU64,
+struct Holding<'a> {
+    /// A point that is held, and the point that it waits for.
+    holds: &'a [(u32, u32)],
+    reached: AtomicU64,
     missed: AtomicU64,
 }
 
-impl Gate for Holding {
+impl Gate for Holding<'_> {
     fn pass(&self, point: u32) {
-        if point == self.until {
-            self.passed.store(1, Ordering::SeqCst);
-        }
-        if point == self.held && !came(&self.passed, 1) {
-            self.missed.store(1, Ordering::SeqCst);
+        self.reached.fetch_or(bit_of(point), Ordering::SeqCst);
+        for (held, until) in self.holds {
+            if *held == point && !came(&self.reached, bit_of(*until)) {
+                self.missed.store(1, Ordering::SeqCst);
+            }
         }
     }
 }
 
-/// The point that is held, the point that it waits for, and the text that is written.
-const HELD: [(u32, u32, &str); 2] = [
+/// Two sessions, of which one looks at what the other one states.
+const PEEK_AND_FACT: &[u8] = b"a peek 0 1\nb assert 0 1 ( TPP )\ncommit\n";
+
+/// The nodes and the script, the points that are held and those that they wait for, and the text that is written.
+const HELD: [(&str, &[u8], &[(u32, u32)], &str); 4] = [
     (
-        2001,
-        3000,
+        "2",
+        PEEK_AND_FACT,
+        &[(2001, 3000)],
         "a peek ( DC EC PO TPP NTPP TPPi NTPPi EQ )\nb fact 1\nversion 1 closed\n",
     ),
-    (2000, 3001, "a peek ( TPP )\nb fact 1\nversion 1 closed\n"),
+    (
+        "2",
+        PEEK_AND_FACT,
+        &[(2000, 3001)],
+        "a peek ( TPP )\nb fact 1\nversion 1 closed\n",
+    ),
+    (
+        "2",
+        b"a assert 0 1 ( TPP )\nb assert 1 0 ( TPPi )\ncommit\n",
+        &[(2000, 2001), (2001, 2000)],
+        "a fact 1\nb fact 2\nversion 1 closed\n",
+    ),
+    (
+        "3",
+        b"s assert 0 1 ( TPP )\ns peek 0 1\ncommit\n",
+        &[(2000, 0), (1000, 3000)],
+        "s fact 1\ns peek ( TPP )\nversion 1 closed\n",
+    ),
 ];
 
 #[test]
-fn a_peek_comes_before_or_after_an_assertion(rt: HostRuntime) -> Result<(), Fail> {
-    let script = b"a peek 0 1\nb assert 0 1 ( TPP )\ncommit\n";
-    for (held, until, text) in HELD {
+fn sessions_and_workers_run_at_once(rt: HostRuntime) -> Result<(), Fail> {
+    for (nodes, script, holds, text) in HELD {
         let gate = Holding {
-            held,
-            until,
-            passed: AtomicU64::new(0),
+            holds,
+            reached: AtomicU64::new(0),
             missed: AtomicU64::new(0),
         };
-        expect_done(&rt, &["serve", "rcc8", "2"], script, &gate, text)?;
-        assert_same_in(&rt, gate.missed.load(Ordering::SeqCst), 0, (held, until));
+        expect_done(&rt, &["serve", "rcc8", nodes], script, &gate, text)?;
+        assert_same_in(&rt, gate.missed.load(Ordering::SeqCst), 0, holds);
     }
     Ok(())
 }

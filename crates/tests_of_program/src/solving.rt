@@ -83,6 +83,29 @@ fn friends_and_strangers_are_found_up_to_five_guests(rt: HostRuntime) -> Result<
     Ok(())
 }
 
+/// A calculus of three colours, in which no triangle has one.
+const COLOURS: &[u8] = b"names ( id a b c )\nidentity id\nid :: id\na :: a\nb :: b\nc :: c\n\
+    id : id :: ( id )\nid : a :: ( a )\nid : b :: ( b )\nid : c :: ( c )\n\
+    a : id :: ( a )\na : a :: ( id b c )\na : b :: ( a b c )\na : c :: ( a b c )\n\
+    b : id :: ( b )\nb : a :: ( a b c )\nb : b :: ( id a c )\nb : c :: ( a b c )\n\
+    c : id :: ( c )\nc : a :: ( a b c )\nc : b :: ( a b c )\nc : c :: ( id a b )\n.\n";
+
+/// Of seventeen nodes three have edges of one colour (Greenwood and Gleason 1955), which takes long to show.
+#[test]
+fn thousands_of_splits_are_told(rt: HostRuntime) -> Result<(), Fail> {
+    let source = complete(rt.alloc(), 17, "( a b c )", "")?;
+    let words = ["solve", "table", "--budget", "5000"];
+    let documents = [("table", COLOURS)];
+    expect_over(
+        &rt,
+        &words,
+        &documents,
+        source.as_str(),
+        "budget 5000\n",
+        Status::Budget,
+    )
+}
+
 const BY_CLASS: &[&str] = &["solve", "table", "--class", "class"];
 
 /// The table file, the class file, and the line that is written.

@@ -472,35 +472,26 @@ fn the_newest_sixteen_versions_are_asked(rt: HostRuntime) -> Result<(), Fail> {
     Ok(())
 }
 
-/// A gate that holds one point until another one was passed, for a number of turns at most.
+/// The bit of a point of one of the first eight workers or sessions.
+fn bit_of(point: u32) -> u64 {
+    1 << (point / 1000 % 4 * 8 + point % 1000 % 8)
+}
+
+/// A gate that holds points, each until another one was reached, for a number of turns at most.
 #[derive(Drop)]
-struct Holding {
-    held: u32,
-    until: u32,
-    passed: AtomicU64,
+struct Holding<'a> {
+    /// A point that is held, and the point that it waits for.
+    holds: &'a [(u32, u32)],
+    reached: AtomicU64,
     missed: AtomicU64,
 }
 
-/// A gate that holds the one point until the other one was passed.
-fn gate_holding(held: u32, until: u32) -> Holding {
-    Holding {
-        held,
-        until,
-        passed: AtomicU64::new(0),
-        missed: AtomicU64::new(0),
-    }
-}
-
-impl Gate for Holding {
-    fn pass(&self, point: u32) {
-        if point == self.until {
-            self.passed.store(1, Ordering::SeqCst);
-        }
-        if point != self.held {
-            return;
-        }
+impl Holding<'_> {
+    /// Waits until the point was reached, for a number of turns at most.
+    fn wait_for(&self, point: u32) {
+        let bit = bit_of(point);
         for _ in 0..200_000_000u64 {
-            if self.passed.load(Ordering::SeqCst) == 1 {
+            if self.reached.load(Ordering::SeqCst) & bit == bit {
                 return;
             }
         }
@@ -508,7 +499,18 @@ impl Gate for Holding {
     }
 }
 
-/// The replies to a script by so many workers, from 1 to 64, where one point is held until the other one was passed.
+impl Gate for Holding<'_> {
+    fn pass(&self, point: u32) {
+        self.reached.fetch_or(bit_of(point), Ordering::SeqCst);
+        for (held, until) in self.holds {
+            if *held == point {
+                self.wait_for(*until);
+            }
+        }
+    }
+}
+
+/// The replies to a script by so many workers, from 1 to 64, where points are held until others were reached.
 fn held_replies<R: Threads + Sync + Abort>(
     rt: &R,
     alloc: Global,
@@ -516,78 +518,82 @@ fn held_replies<R: Threads + Sync + Abort>(
     script: &[u8],
     c: &Calculus,
     workers: u32,
-    held: u32,
-    until: u32,
+    holds: &[(u32, u32)],
 ) -> Result<String, Fail>
     requires calculus { c.now.algebra ≡ store.old.calculus }
     requires some { 0 < workers }
     requires few { workers ≤ 64 }
 {
-    let gate = gate_holding(held, until);
+    let gate = Holding {
+        holds,
+        reached: AtomicU64::new(0),
+        missed: AtomicU64::new(0),
+    };
     let replies = replies_by(rt, alloc, store, script, c, workers, &gate)?;
-    assert_same(rt, gate.missed.load(Ordering::SeqCst), 0);
+    assert_same_in(rt, gate.missed.load(Ordering::SeqCst), 0, (workers, holds));
     Ok(replies)
 }
 
-/// The point that is held, the point that it waits for, the replies.
-const PEEK_ORDERS: [(u32, u32, &str); 2] = [
+/// Two sessions, of which one looks at what the other one states.
+const PEEK_AND_FACT: &[u8] = b"a peek 0 1\nb assert 0 1 ( TPP )\ncommit\n";
+
+/// Two sessions that state facts.
+const FACTS: &[u8] = b"a assert 0 1 ( TPP )\nb assert 1 2 ( TPP )\n";
+
+/// A session that looks at what it stated.
+const FACT_AND_PEEK: &[u8] = b"s assert 0 1 ( TPP )\ns peek 0 1\n";
+
+/// The replies where the peek came first, where the fact did, to the facts, and to the fact and the peek at it.
+const PEEKED_BEFORE: &str =
+    "a peek ( DC EC PO TPP NTPP TPPi NTPPi EQ )\nb fact 1\nversion 1 closed\n";
+
+const PEEKED_AFTER: &str = "a peek ( TPP )\nb fact 1\nversion 1 closed\n";
+
+const STATED: &str = "a fact 1\nb fact 2\nversion 1 closed\n";
+
+const STATED_AND_PEEKED: &str = "s fact 1\ns peek ( TPP )\nversion 1 closed\n";
+
+/// A script over three nodes, the number of workers, the points that are held and those that they wait for, the replies.
+/// One worker comes after the sessions. With several each session may wait for the other, its step may lie within a
+/// worker's points, and a held point holds no other.
+const HELD: [(&[u8], u32, &[(u32, u32)], &str); 8] = [
+    (FACTS, 1, &[(0, 3000), (0, 3001)], STATED),
+    (PEEK_AND_FACT, 2, &[(2001, 3000)], PEEKED_BEFORE),
+    (PEEK_AND_FACT, 2, &[(2000, 3001)], PEEKED_AFTER),
+    (FACTS, 2, &[(2000, 2001), (2001, 2000)], STATED),
+    (FACTS, 3, &[(3000, 3001)], STATED),
     (
-        2001,
-        3000,
-        "a peek ( DC EC PO TPP NTPP TPPi NTPPi EQ )\nb fact 1\nversion 1 closed\n",
+        FACT_AND_PEEK,
+        2,
+        &[(2000, 0), (1000, 3000)],
+        STATED_AND_PEEKED,
     ),
-    (2000, 3001, "a peek ( TPP )\nb fact 1\nversion 1 closed\n"),
+    (FACT_AND_PEEK, 3, &[(2000, 1002)], STATED_AND_PEEKED),
+    (FACT_AND_PEEK, 64, &[(0, 1), (1, 0)], STATED_AND_PEEKED),
 ];
 
 #[test]
-fn peek_order(rt: HostRuntime) -> Result<(), Fail> {
+fn sessions_and_workers_run_at_once(rt: HostRuntime) -> Result<(), Fail> {
     let c = rcc8(rt.alloc())?;
-    let script = b"a peek 0 1\nb assert 0 1 ( TPP )\ncommit\n";
-    for (held, until, expected) in PEEK_ORDERS {
-        let mut store = Store::new(rt.alloc(), 2, &c)?;
-        let replies = held_replies(&rt, rt.alloc(), &mut store, script, &c, 1, held, until)?;
-        assert_same_in(&rt, replies.as_str(), expected, (held, until));
+    for (script, workers, holds, expected) in HELD {
+        let mut store = Store::new(rt.alloc(), 3, &c)?;
+        assert!(rt; 0 < workers && workers <= 64);
+        let replies = held_replies(&rt, rt.alloc(), &mut store, script, &c, workers, holds)?;
+        assert_same_in(&rt, replies.as_str(), expected, (workers, holds));
     }
     Ok(())
 }
 
 #[test]
-fn a_peek_after_the_worker_shows_its_work(rt: HostRuntime) -> Result<(), Fail> {
+fn a_peek_after_the_workers_shows_their_work(rt: HostRuntime) -> Result<(), Fail> {
     let c = rcc8(rt.alloc())?;
     let script = b"s assert 0 1 ( TPP )\ns assert 1 2 ( NTPP )\ns assert 0 1 ( TPP )\n";
     let mut store = store_after(&rt, rt.alloc(), 3, script, &c)?;
     // the opening network of this batch has every relation from 0 to 2
     let script = b"s withdraw 3\ns peek 0 2\n";
-    let replies = held_replies(&rt, rt.alloc(), &mut store, script, &c, 1, 2000, 1000)?;
+    let holds = [(2000, 1000), (2000, 1001)];
+    let replies = held_replies(&rt, rt.alloc(), &mut store, script, &c, 2, &holds)?;
     let expected = "s withdrawn 3\ns peek ( NTPP )\nversion 2 closed\n";
     assert_same(&rt, replies.as_str(), expected);
-    Ok(())
-}
-
-/// Script, the point that is held, the point that it waits for, the replies of three workers, of whom two have no
-/// edges.
-const HELD_POINTS: [(&[u8], u32, u32, &str); 2] = [
-    (
-        b"a assert 0 1 ( TPP )\nb assert 1 2 ( TPP )\n",
-        3000,
-        3001,
-        "a fact 1\nb fact 2\nversion 1 closed\n",
-    ),
-    (
-        b"s assert 0 1 ( TPP )\ns peek 0 1\n",
-        2000,
-        1002,
-        "s fact 1\ns peek ( TPP )\nversion 1 closed\n",
-    ),
-];
-
-#[test]
-fn a_held_point_holds_no_other(rt: HostRuntime) -> Result<(), Fail> {
-    let c = rcc8(rt.alloc())?;
-    for (script, held, until, expected) in HELD_POINTS {
-        let mut store = Store::new(rt.alloc(), 3, &c)?;
-        let replies = held_replies(&rt, rt.alloc(), &mut store, script, &c, 3, held, until)?;
-        assert_same_in(&rt, replies.as_str(), expected, (held, until));
-    }
     Ok(())
 }

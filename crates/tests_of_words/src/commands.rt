@@ -30,13 +30,17 @@ fn text_or_none(text: &Option<String>) -> &str {
     }
 }
 
-/// The words, the calculus, and the number of workers.
-const CLOSINGS: [(&[&str], &str, u32); 5] = [
-    (&["close", "rcc8"], "rcc8", 4),
-    (&["close", "--workers", "1", "allen"], "allen", 1),
-    (&["close", "--workers=02", "rcc8"], "rcc8", 2),
-    (&["close", "towns.table", "--workers=64"], "towns.table", 64),
-    (&["close", "help"], "help", 4),
+/// The words, the calculus, and the number of workers, if one is named.
+const CLOSINGS: [(&[&str], &str, Option<u32>); 5] = [
+    (&["close", "rcc8"], "rcc8", None),
+    (&["close", "--workers", "1", "allen"], "allen", Some(1)),
+    (&["close", "--workers=04", "rcc8"], "rcc8", Some(4)),
+    (
+        &["close", "towns.table", "--workers=64"],
+        "towns.table",
+        Some(64),
+    ),
+    (&["close", "help"], "help", None),
 ];
 
 #[test]
@@ -57,8 +61,8 @@ fn words_of_close_are_taken(rt: HostRuntime) -> Result<(), Fail> {
 }
 
 /// What a row says of a search: the calculus, the class, the polygons or no text, the budget, the number of workers,
-/// and whether the answer is a certificate.
-type Search<'a> = (&'a str, &'a str, &'a str, u32, u32, bool);
+/// if one is named, and whether the answer is a certificate.
+type Search<'a> = (&'a str, &'a str, &'a str, u32, Option<u32>, bool);
 
 /// What a request says of the search.
 fn search_of(solve: &Solve) -> Search<'_> {
@@ -74,31 +78,34 @@ fn search_of(solve: &Solve) -> Search<'_> {
 
 /// The words, and the search.
 const SEARCHES: [(&[&str], Search); 9] = [
-    (&["solve", "rcc8"], ("rcc8", "h8", "", 1000, 4, false)),
-    (&["solve", "allen"], ("allen", "none", "", 1000, 4, false)),
+    (&["solve", "rcc8"], ("rcc8", "h8", "", 1000, None, false)),
+    (
+        &["solve", "allen"],
+        ("allen", "none", "", 1000, None, false),
+    ),
     (
         &["solve", "rcc8", "--cert"],
-        ("rcc8", "h8", "", 1000, 4, true),
+        ("rcc8", "h8", "", 1000, None, true),
     ),
     (
         &["solve", "--cert", "point"],
-        ("point", "none", "", 1000, 4, true),
+        ("point", "none", "", 1000, None, true),
     ),
     (
         &["solve", "t", "--class", "k"],
-        ("t", "k", "", 1000, 4, false),
+        ("t", "k", "", 1000, None, false),
     ),
     (
         &["solve", "--class=q8", "rcc8", "--budget=0"],
-        ("rcc8", "q8", "", 0, 4, false),
+        ("rcc8", "q8", "", 0, None, false),
     ),
     (
         &["solve", "rcc8", "--polygons", "p"],
-        ("rcc8", "h8", "p", 1000, 4, false),
+        ("rcc8", "h8", "p", 1000, None, false),
     ),
     (
         &["solve", "--polygons=a=b", "--cert", "rcc8"],
-        ("rcc8", "h8", "a=b", 1000, 4, true),
+        ("rcc8", "h8", "a=b", 1000, None, true),
     ),
     (
         &[
@@ -110,7 +117,7 @@ const SEARCHES: [(&[&str], Search); 9] = [
             "10000",
             "--workers=1",
         ],
-        ("rcc8", "none", "", 10_000, 1, false),
+        ("rcc8", "none", "", 10_000, Some(1), false),
     ),
 ];
 

@@ -2,7 +2,7 @@ use Rattle.std.proofs.Common.{◌<◌, subst, sym, ◌∙◌, ap, refl, arith, l
 use Rattle.calculus_table.specs.Rel.{IsWithin}
 use Rattle.edge_propagation.specs.Worklist.{Worklist, edge_place}
 use Rattle.edge_propagation.specs.Propagation.{IsInStep}
-use Rattle.closure_seq.specs.Paths.{IsQuiet}
+use Rattle.edge_propagation.specs.Worklist.{IsQuiet}
 use Rattle.edge_propagation.proofs.Places.{waiting-pair, count-cleared, edge_place-inside}
 use Rattle.closure_seq.proofs.InStep.{IsInStepBut-reset, IsInStep-quiet}
 use Rattle.closure_seq.proofs.narrowing.reset_queued.Goals as goal

@@ -1,6 +1,6 @@
 use Rattle.std.proofs.Common.{◌≡◌, length}
 use Rattle.edge_propagation.specs.Propagation.{IsInStep}
-use Rattle.closure_seq.specs.Paths.{IsQuiet}
+use Rattle.edge_propagation.specs.Worklist.{IsQuiet}
 use Rattle.closure_seq.proofs.narrowing.undo_changes.Given as goal
 
 abbrev pub invariant-loop-change : goal.invariant-loop-change

@@ -1,55 +1,59 @@
-use Rattle.std.proofs.Common.{◌≡◌, ℕ, ◌++◌, ◌∷◌, [], List, length, ap, ap₂, sym, subst, ◌∙◌, arith}
+use Rattle.std.proofs.Common.{◌≡◌, ℕ, ◌+◌, ◌*◌, ◌≤◌, ◌++◌, ◌∷◌, [], List, length, length-append, ap, ap₂, sym, subst, ◌∙◌, arith}
 use Rattle.std.specs.List.{All}
-use Rattle.std.specs.Prelude.{Option, Some}
+use Rattle.std.specs.Prelude.{Some}
 use Rattle.std.proofs.lemmas.Grind.{common_steps}
-use Rattle.std.proofs.lemmas.List.Elements.{All-push, All-pop, All-weaker}
+use Rattle.std.proofs.lemmas.List.{append-nil, length-map}
+use Rattle.std.proofs.lemmas.List.Elements.{All-push, All-pop}
+use Rattle.network_words.specs.Edge.{edge_count}
 use Rattle.network_words.specs.Network.{Refines}
-use Rattle.network_words.proofs.Networks.{Refines-trans}
+use Rattle.network_words.specs.declared.fact.Fact.{Fact}
+use Rattle.network_words.proofs.Networks.{Refines-refl, Refines-trans}
 use Rattle.narrow_core.specs.Actor.{ActorState, met_words}
-use Rattle.closure_workers.specs.declared.pieces.Piece.{Piece}
-use Rattle.edge_table.specs.Opening.{algebra_of}
-use Rattle.closure_seq.specs.Copies.{CopyState}
-use Rattle.edge_slices.specs.Slices.{IsHeld}
-use Rattle.closure_workers.specs.Pieces.{IsPieceOf, AreHeld, IsBetween, HasSeen}
 use Rattle.narrow_core.proofs.Sights.{met-within_l, met-within_r}
+use Rattle.closure_workers.specs.declared.worker.Desk.{Desk}
+use Rattle.closure_workers.specs.declared.worker.Worker.{Worker}
+use Rattle.closure_workers.specs.Workers.{HasEnded, IsSeenDesk, slices_of, slices_at}
+use Rattle.closure_workers.proofs.DealtSlices.{slices_of-push, slices_at-push, AreAmong-next, AreDealt-handed}
+use Rattle.closure_workers.proofs.OneRound.{AllSeen-between, IsSeenDesk-ended, one_more_loads}
 use Rattle.closure_workers.proofs.pieces.gather.Goals as goal
 
-pub loop-piece-preserved : goal.loop-piece-preserved
-loop-piece-preserved c =
-    let h = c.loop-piece.invariant in
+pub loop-worker-preserved : goal.loop-worker-preserved
+loop-worker-preserved c =
+    let h = c.loop-worker.invariant in
     let table = c.args.table.now in
-    let piece = c.in-Some.piece in
+    let began = c.args.home.actor.seen in
+    let old = c.loop-worker.workers.items in
     let left = c.pop.new.self.items in
-    let items : c.loop-piece.pieces.items ≡ left ++ piece ∷ [] = c.in-Some.ensures.items in
-    let own = All-pop (IsPieceOf table) c.loop-piece.pieces.items left (Some piece) items h.left in
-    let shown = All-pop (λ (p : Piece). p.snap ≡ p.pass.actor.seen) c.loop-piece.pieces.items left (Some piece) items h.seen in
-    let all = c.loop-piece.all.actor in
+    let worker = c.in-Some.worker in
+    let items : old ≡ left ++ worker ∷ [] = c.in-Some.ensures.items in
+    let one : length old ≡ length left + 1 = ap length items ∙ length-append left (worker ∷ []) in
+    let parts = All-pop (HasEnded table began) old left (Some worker) items h.left in
+    let desks = c.loop-worker.desks.items in
+    let pushed : c.push.new.self.items ≡ desks ++ worker.desk ∷ [] = c.in-Ok.ensures.items in
+    let more : length c.push.new.self.items ≡ length desks + 1 = ap length pushed ∙ length-append desks (worker.desk ∷ []) in
+    let all = c.loop-worker.all in
     let joined = c.join-all.ensures.actor in
-    let seen : c.join-all.result.actor.seen ≡ met_words all.seen piece.pass.actor.seen = ap (λ (a : ActorState). a.seen) joined in
-    let opening = table.opening.words in
-    let high : length piece.snap ≡ length opening = own.1.size ∙ sym c.requires.opening in
-    let last : IsBetween c.join-all.result.actor.seen opening piece.snap = record {
-      length_is = high;
-      within = subst (λ (ws : List ℕ). Refines ws opening) (sym shown.1) own.1.opening;
-      contains = subst (Refines c.join-all.result.actor.seen) (sym shown.1) (subst (λ (ws : List ℕ). Refines ws piece.pass.actor.seen) (sym seen) (met-within_r all.seen piece.pass.actor.seen));
-    } in
-    let less : Refines c.join-all.result.actor.seen all.seen = subst (λ (ws : List ℕ). Refines ws all.seen) (sym seen) (met-within_l all.seen piece.pass.actor.seen) in
+    let next = c.join-all.result.actor.seen in
+    let seen : next ≡ met_words all.actor.seen worker.pass.actor.seen = ap (λ (a : ActorState). a.seen) joined in
+    let less : Refines next all.actor.seen = subst (λ (ws : List ℕ). Refines ws all.actor.seen) (sym seen) (met-within_l all.actor.seen worker.pass.actor.seen) in
+    let lesser : Refines next worker.pass.actor.seen = subst (λ (ws : List ℕ). Refines ws worker.pass.actor.seen) (sym seen) (met-within_r all.actor.seen worker.pass.actor.seen) in
     record {
       pass = c.join-all.ensures.pass;
-      weight = (let w = ap (λ (a : ActorState). a.weight) joined in let l = ap length items in let v = own.1.weight in let u = h.weight in grind (arith, common_steps));
-      facts = ap (λ (a : ActorState). a.mine) joined ∙ ap₂ ◌++◌ h.facts own.1.facts;
-      left = own.0;
-      seen = shown.0;
-      between = c.in_ok-keep_snap.ensures.between c.join-all.result.actor.seen opening
-          (All-weaker (IsBetween all.seen opening) (IsBetween c.join-all.result.actor.seen opening)
-          (λ s b. record { length_is = b.length_is; within = b.within; contains = Refines-trans c.join-all.result.actor.seen all.seen s less b.contains }) c.loop-piece.snaps.items h.between) last;
-      held = subst (λ (hs : List (Option CopyState)). AreHeld (algebra_of table.opening) hs) (sym c.in-Ok.ensures.items) (All-push (IsHeld (algebra_of table.opening)) c.loop-piece.helds.items piece.held h.held own.1.held);
-      each = λ words same rest.
-          let parts = c.in_ok-keep_snap.ensures.each words same in
-          h.each words parts.0 (subst (λ (ps : List Piece). All (HasSeen words) ps) (sym items) (All-push (HasSeen words) left piece rest parts.1));
+      weight = ap (λ (a : ActorState). a.weight) joined ∙ (let w = h.weight in let v = parts.1.weight in omega arith);
+      facts = ap (λ (a : ActorState). a.mine) joined ∙ ap₂ ◌++◌ h.facts parts.1.facts ∙ append-nil c.args.home.actor.mine;
+      loads = one_more_loads c.args.home.loads (length desks) (length c.push.new.self.items) (edge_count table.opening.nodes) all.loads worker.pass.loads c.join-all.result.loads more h.loads parts.1.loads
+          c.join-all.ensures.loads;
+      within = Refines-trans next all.actor.seen began less h.within;
+      left = parts.0;
+      desks = subst (All (IsSeenDesk table next began)) (sym pushed) (All-push (IsSeenDesk table next began) desks worker.desk
+          (AllSeen-between table all.actor.seen next began began desks less (Refines-refl began) h.desks) (IsSeenDesk-ended table next began worker lesser parts.1));
+      among = AreAmong-next (slices_at c.args.workers.items) (slices_at old) (slices_at left) (slices_of desks) (slices_of c.push.new.self.items) worker.desk.slice
+          (ap slices_at items ∙ slices_at-push left worker) (ap slices_of pushed ∙ slices_of-push desks worker.desk) h.among;
+      count = (let k = h.count in omega arith);
     }
 
-pub returns-clause-each : goal.returns-clause-each
-returns-clause-each c = λ words same.
-    let none : length c.loop-piece.pieces.items ≡ 0 = grind (arith, common_steps) in
-    c.loop-piece.invariant.each words same (λ k d b. absurd (omega (arith, none)))
+pub returns-clause-dealt : goal.returns-clause-dealt
+returns-clause-dealt c = λ edges dealt.
+    let none : length c.loop-worker.workers.items ≡ 0 = grind (arith, common_steps) in
+    AreDealt-handed (slices_at c.args.workers.items) (slices_at c.loop-worker.workers.items) (slices_of c.loop-worker.desks.items) edges
+    (length-map c.loop-worker.workers.items (λ (w : Worker). w.desk.slice) ∙ none) c.loop-worker.invariant.among dealt

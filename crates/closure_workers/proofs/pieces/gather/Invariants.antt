@@ -1,20 +1,24 @@
-use Rattle.std.proofs.Common.{◌≡◌, ℕ, ◌+◌, List, [], length}
+use Rattle.std.proofs.Common.{◌≡◌, ◌+◌, ◌*◌, ◌≤◌, length}
 use Rattle.std.specs.List.{All}
-use Rattle.edge_table.specs.Opening.{IsPassOf, algebra_of}
-use Rattle.closure_workers.specs.Pieces.{IsPieceOf, AreHeld, IsBetween, HasSeen}
+use Rattle.network_words.specs.Edge.{edge_count}
+use Rattle.network_words.specs.Network.{Refines}
+use Rattle.edge_table.specs.Opening.{IsPassOf}
+use Rattle.closure_workers.specs.Workers.{HasEnded, IsSeenDesk, slices_of, slices_at}
+use Rattle.closure_workers.proofs.DealtSlices.{AreAmong}
 use Rattle.closure_workers.proofs.pieces.gather.Given as goal
 
-abbrev pub invariant-loop-piece : goal.invariant-loop-piece
-invariant-loop-piece l = record {
+abbrev pub invariant-loop-worker : goal.invariant-loop-worker
+invariant-loop-worker l = record {
   pass : IsPassOf l.table l.all;
-  weight : l.all.actor.weight + length l.pieces.items ≡ length l.fn.pieces.items + 1;
-  facts : l.all.actor.mine ≡ [];
-  left : All (IsPieceOf l.table) l.pieces.items;
-  seen : All (λ p. p.snap ≡ p.pass.actor.seen) l.pieces.items;
-  between : All (IsBetween l.all.actor.seen l.table.opening.words) l.snaps.items;
-  held : AreHeld (algebra_of l.table.opening) l.helds.items;
-  each : (words : List ℕ) → All (λ s. s ≡ words) l.snaps.items → All (HasSeen words) l.pieces.items → All (HasSeen words) l.fn.pieces.items;
+  weight : l.all.actor.weight ≡ l.fn.home.actor.weight + length l.desks.items;
+  facts : l.all.actor.mine ≡ l.fn.home.actor.mine;
+  loads : l.fn.home.loads + length l.desks.items * edge_count l.table.opening.nodes ≤ l.all.loads;
+  within : Refines l.all.actor.seen l.fn.home.actor.seen;
+  left : All (HasEnded l.table l.fn.home.actor.seen) l.workers.items;
+  desks : All (IsSeenDesk l.table l.all.actor.seen l.fn.home.actor.seen) l.desks.items;
+  among : AreAmong (slices_at l.fn.workers.items) (slices_at l.workers.items) (slices_of l.desks.items);
+  count : length l.desks.items + length l.workers.items ≡ length l.fn.workers.items;
 }
 
-abbrev pub decreases-loop-piece : goal.decreases-loop-piece
-decreases-loop-piece l = length l.pieces.items
+abbrev pub decreases-loop-worker : goal.decreases-loop-worker
+decreases-loop-worker l = length l.workers.items

@@ -5,7 +5,7 @@ use Rattle.edge_propagation.proofs.Blocks.{AreLanesDone-step}
 use Rattle.edge_propagation.proofs.propagation.narrow_lanes.Goals as goal
 
 pub loop-span-init : goal.loop-span-init
-loop-span-init g c = record { step = IsStep-refl _ _ c.requires.ready.sets; settled = λ l small none t _. c.requires.clear l small none t }
+loop-span-init g c = record { step = IsStep-refl _ _ c.requires.ready.sets; none = λ i j p e. e; settled = λ l small none t _. c.requires.clear l small none t }
 
 pub narrow_proper-requires-clause-ready : goal.narrow_proper-requires-clause-ready
 narrow_proper-requires-clause-ready g c = IsReady-step _ _ _ _ c.requires.ready c.loop-span.invariant.step
@@ -17,7 +17,7 @@ pub loop-span-preserved : goal.loop-span-preserved
 loop-span-preserved g c =
     AreLanesDone-step (g.C.Compose.algebra c.args.c.now) c.args.span c.args.work.now c.loop-span.work c.narrow_proper.new.work
     c.args.i c.args.j (16 * c.args.block) c.loop-span.left c.least-lane.result c.without-left.result
-    c.loop-span.invariant c.without-left.ensures c.in_ok-narrow_proper.ensures.step c.in_ok-narrow_proper.ensures.settled
+    c.loop-span.invariant c.without-left.ensures c.in_ok-narrow_proper.ensures.step c.in_ok-narrow_proper.ensures.none c.in_ok-narrow_proper.ensures.settled
 
 pub returns-in_err-narrow_proper-clause-step : goal.returns-in_err-narrow_proper-clause-step
 returns-in_err-narrow_proper-clause-step g c = IsStep-trans _ _ _ _ c.loop-span.invariant.step c.in_err-narrow_proper.ensures.step

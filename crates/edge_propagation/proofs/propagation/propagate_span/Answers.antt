@@ -7,7 +7,7 @@ pub take-requires-clause-within : goal.take-requires-clause-within
 take-requires-clause-within g c = rw c.get-a.ensures (c.requires.ready.sets.within _ _ c.requires.proper)
 
 pub loop-block-init : goal.loop-block-init
-loop-block-init g c = record { step = IsStep-refl _ _ c.requires.ready.sets; settled = λ q l t among. absurd (let from = among.from in omega arith) }
+loop-block-init g c = record { step = IsStep-refl _ _ c.requires.ready.sets; none = λ i j p e. e; settled = λ q l t among. absurd (let from = among.from in omega arith) }
 
 pub propagate_block-requires-clause-ready : goal.propagate_block-requires-clause-ready
 propagate_block-requires-clause-ready g c = IsReady-step _ _ _ _ c.requires.ready c.loop-block.invariant.step
@@ -24,7 +24,7 @@ returns-in_err-propagate_block-clause-step g c = IsStep-trans _ _ _ _ c.loop-blo
 pub loop-block-preserved : goal.loop-block-preserved
 loop-block-preserved g c =
     IsPropagated-block (g.C.Compose.algebra c.args.c.now) c.args.span c.args.work.now c.loop-block.work c.propagate_block.new.work c.args.i c.args.j c.loop-block.block
-    c.loop-block.invariant c.in_ok-propagate_block.ensures.step c.in_ok-propagate_block.ensures.settled
+    c.loop-block.invariant c.in_ok-propagate_block.ensures.step c.in_ok-propagate_block.ensures.none c.in_ok-propagate_block.ensures.settled
 
 pub returns-clause-settled : goal.returns-clause-settled
 returns-clause-settled g c = λ k t among.

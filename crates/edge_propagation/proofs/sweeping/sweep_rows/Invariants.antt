@@ -1,6 +1,6 @@
-use Rattle.std.proofs.Common.{◌≡◌, ℕ, ◌<◌, ◌≤◌, ◌-◌}
+use Rattle.std.proofs.Common.{◌≡◌, ℕ, ◌<◌, ◌≤◌}
 use Rattle.edge_propagation.specs.declared.sweeping.Sweep.TheVariants as sweep
-use Rattle.edge_propagation.specs.Propagation.{IsStep, IsRowSettled}
+use Rattle.edge_propagation.specs.Propagation.{IsStep, EmptiesNone, IsRowSettled}
 use Rattle.edge_propagation.proofs.sweeping.sweep_rows.Given as goal
 
 abbrev pub invariant-loop-i : goal.invariant-loop-i
@@ -8,9 +8,7 @@ invariant-loop-i g l =
     let m = g.C.Compose.algebra l.c in
     record {
       step : IsStep m l.initial.work l.work;
-      settled : l.sweep ≡ sweep.Whole → (r : ℕ) → l.rows.first ≤ r → r < l.i → IsRowSettled m l.work r;
+      none : EmptiesNone l.initial.work l.work;
+      settled : l.sweep ≡ sweep.Whole → (r : ℕ) → l.fn.rows.first ≤ r → r < l.i → IsRowSettled m l.work r;
       bases : l.tables.bases ≡ l.initial.tables.bases;
     }
-
-abbrev pub decreases-loop-i : goal.decreases-loop-i
-decreases-loop-i g l = l.rows.end - l.i

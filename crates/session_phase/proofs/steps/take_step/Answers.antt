@@ -4,8 +4,8 @@ use Rattle.session_phase.proofs.steps.take_step.Goals as goal
 
 pub returns-in-Assert-clause-taken : goal.returns-in-Assert-clause-taken
 returns-in-Assert-clause-taken g c =
-    let h = c.assert.ensures in
-    IsTaken-asserts (g.C.Compose.algebra c.args.c.now) c.args.table.now.opening.nodes c.in-Assert.fact c.args.step c.args.pass.now c.assert.new.pass c.lawful.ensures c.requires.network h.pass.nodes
+    let h = c.state.ensures in
+    IsTaken-asserts (g.C.Compose.algebra c.args.c.now) c.args.table.now.opening.nodes c.in-Assert.fact c.args.step c.args.pass.now c.state.new.pass c.lawful.ensures c.requires.network h.pass.nodes
     c.in-Assert.is h.asserts h.within
 
 pub returns-in-Peek-clause-taken : goal.returns-in-Peek-clause-taken

@@ -10,7 +10,7 @@ use Rattle.session_versions.specs.Drafts.{DraftState}
 use Rattle.session_versions.specs.Versions.{AreProper, IsClosureOfFacts}
 use Rattle.session_versions.specs.Stores.{StoreState, committing}
 use Rattle.session_scripts.specs.Batches.{IsBatchFor}
-use Rattle.session_phase.specs.Phase.{IsClosureWithin}
+use Rattle.closure_workers.specs.Rounds.{IsClosureWithin}
 use Rattle.session_replies.specs.Replies.{facts_of_lines, draft_of, drafted, ArePeeks, IsAnswered, replies}
 use Rattle.session_run.proofs.Made.{IsClosureOfFacts-made, IsNetwork-opening}
 use Rattle.session_run.proofs.run.run_batch.Goals as goal

@@ -1,4 +1,4 @@
-use Rattle.closure_seq.specs.Copies.{IsSettledCopy}
+use Rattle.slice_copy.specs.Copies.{IsSettledCopy}
 use Rattle.tests_of_closures.proofs.closures.looks_at_an_eighth.Given as goal
 
 abbrev pub invariant-loop : goal.invariant-loop

@@ -1,6 +1,7 @@
 use Rattle.std.proofs.Common.{◌∙◌, ◌*◌, sym, refl, length, ap, arith, count_by}
 use Rattle.std.proofs.lemmas.List.{length-replicate}
-use Rattle.edge_propagation.proofs.Places.{count-none}
+use Rattle.std.proofs.lemmas.Bool.{false≢true}
+use Rattle.edge_propagation.proofs.Places.{count-none, none-set}
 use Rattle.edge_propagation.proofs.Planes.{AreBytesOf-none, length-sets_in}
 use Rattle.edge_propagation.proofs.pairs.PairSets.new.Goals as goal
 
@@ -15,4 +16,5 @@ invariant_of-result c = (
   AreBytesOf-none _ c.in_ok-bytes.bytes.items refl c.in_ok-bytes.ensures.none,
   sym (ap (count_by (λ b. b)) c.in_ok-queued.ensures ∙ count-none (256 * c.args.nodes)),
   omega (arith, c.in_ok-bytes.ensures.room),
+  λ e h. absurd (false≢true (sym (none-set _ e) ∙ rw c.in_ok-queued.ensures at h)),
 )

@@ -13,4 +13,5 @@ invariant_of-self c =
       AreBytesOf-empty _ bytes c.requires (sets_in-zero bytes c.args.planes n zero) c.clear_to.ensures.items,
       c.self.invariant.2,
       omega (arith, c.clear_to.ensures.room, c.self.invariant.3),
+      c.self.invariant.4,
     )

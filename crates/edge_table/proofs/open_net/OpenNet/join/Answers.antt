@@ -1,8 +1,8 @@
 use Rattle.std.proofs.Common.{◌∙◌, ℕ, sym, ap, subst, arith}
 use Rattle.std.specs.Prelude.{IsTrue}
 use Rattle.atomic_table.specs.Table.{Me}
-use Rattle.narrow_core.specs.Actor.{ActorState}
 use Rattle.edge_table.specs.Opening.{opening_of}
+use Rattle.edge_table.specs.declared.sight.Sight.{Sight}
 use Rattle.edge_table.proofs.Rules.{some-padded}
 use Rattle.edge_table.proofs.Steps.{joins, seat_weighs}
 use Rattle.edge_table.proofs.Passes.{IsPass-joined}
@@ -30,8 +30,8 @@ load-word-requires c =
     let seat = c.join_seat.new.seat in (
       c.join_seat.ensures.0 ∙ first.id,
       omega (arith, c.self.invariant.words, some-padded o.words),
-      seat_weighs o table.table_id.slots seat.id seat.me (ap (λ (me : Me ℕ ActorState). me.1) joined ∙ c.a.invariant.carries)
-          (subst (λ (me : Me ℕ ActorState). IsTrue me.0.is_live) (sym joined) c.a.invariant.live),
+      seat_weighs o table.table_id.slots seat.id seat.me (ap (λ (me : Me ℕ Sight). me.1) joined ∙ c.a.invariant.carries)
+          (subst (λ (me : Me ℕ Sight). IsTrue me.0.actor.is_live) (sym joined) c.a.invariant.live),
     )
 
 pub invariant_of-result : goal.invariant_of-result

@@ -7,6 +7,7 @@ use Rattle.network_words.specs.Edge.{edge_count, edge_between}
 use Rattle.network_words.specs.Network.{oriented}
 use Rattle.network_words.proofs.Pairs.{pair-outer, edge_between-lt}
 use Rattle.edge_table.specs.Opening.{opening_of, algebra_of}
+use Rattle.edge_table.specs.declared.sight.Sight.{Sight}
 use Rattle.edge_table.proofs.Rules.{length-padded}
 use Rattle.edge_table.proofs.Steps.{seat_narrows}
 use Rattle.edge_table.proofs.Passes.{IsPass-sees, operand-of}
@@ -24,7 +25,7 @@ fetch_and-found-requires g c =
     c.edge_between-edge.ensures.value ∙ ap (λ n. edge_between n c.args.i c.args.k) c.self.invariant.nodes_are in
     let below : edge_between o.nodes c.args.i c.args.k < edge_count o.nodes = edge_between-lt o.nodes c.args.i c.args.k (pair-outer o.nodes c.args.i c.args.j c.args.k proper) in
     let seat = c.pass.inside.seat in
-    let operand = operand-of (g.C.Compose.algebra c.args.c.now) (algebra_of o) c.pass.inside.nodes o.nodes seat.me.0.seen c.args.i c.args.j c.args.k c.args.along
+    let operand = operand-of (g.C.Compose.algebra c.args.c.now) (algebra_of o) c.pass.inside.nodes o.nodes seat.me.0.actor.seen c.args.i c.args.j c.args.k c.args.along
     c.word-operand.result c.oriented.result calculus own.nodes along c.oriented.ensures.value c.word-operand.ensures in (
       own.id,
       omega (arith, c.self.invariant.words, c.self.invariant.length_is, length-padded o.words, below, edge),
@@ -35,7 +36,7 @@ fetch_and-found-requires g c =
 pub invariant_of-pass : goal.invariant_of-pass
 invariant_of-pass g c =
     IsPass-sees c.pass.inside.weight c.pass.inside.nodes c.pass.inside.full c.pass.inside.seat.table_id c.fetch_and-found.new.seat.table_id c.pass.inside.seat.me c.fetch_and-found.new.seat.me
-    c.edge_between-edge.result (bit_and c.fetch_and-found.result c.word-operand.result) c.pass.invariant c.fetch_and-found.ensures.2
+    c.edge_between-edge.result (bit_and c.fetch_and-found.result c.word-operand.result) c.pass.invariant (ap (λ (v : Sight). v.actor) c.fetch_and-found.ensures.2.after) c.fetch_and-found.ensures.2.carries
 
 pub returns-clause-along : goal.returns-clause-along
 returns-clause-along g c =

@@ -14,7 +14,7 @@ returns-clause-less g c =
     let own = rw (← c.pass.view_is) at c.requires.pass in
     let full = own.full ∙ ap (λ (a : Algebra). full_of a) (sym c.requires.calculus) in
     let net = subst (λ (p : PassState). IsNetwork m p.nodes p.actor.seen) c.pass.view_is
-    (seen-network m c.pass.inside.nodes c.pass.inside.full c.pass.inside.seat.me.0 full c.pass.invariant.proper) in
+    (seen-network m c.pass.inside.nodes c.pass.inside.full c.pass.inside.seat.me.0.actor full c.pass.invariant.proper) in
     let edge = c.edge_between.ensures.value ∙ ap (λ n. edge_between n c.args.i c.args.k) nodes in
     changed-pass m c.args.self.now.opening.nodes c.args.i c.args.k c.edge_between.result c.narrow_by-word.result c.args.pass.now c.narrow_by-word.new.pass c.args.snap.now c.take.result
     c.lawful.ensures c.requires.pass.nodes c.narrow_by-word.ensures.pass.nodes net c.narrow_by-word.ensures.within c.narrow_by-word.ensures.shown edge c.requires.snap c.take.ensures.changed

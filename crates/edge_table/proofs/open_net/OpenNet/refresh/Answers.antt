@@ -1,9 +1,9 @@
-use Rattle.std.proofs.Common.{◌≡◌, ℕ, ◌<◌, ◌≤◌, ◌∙◌, List, length, sym, ap, subst}
+use Rattle.std.proofs.Common.{◌≡◌, ℕ, ◌<◌, ◌≤◌, ◌∙◌, List, length, sym, ap, subst, arith}
 use Rattle.network_words.specs.Edge.{edge_count}
 use Rattle.network_words.specs.Network.{IsNetwork}
 use Rattle.network_words.proofs.Refinements.{IsNetwork-refines}
 use Rattle.edge_table.specs.Opening.{OpenState, PassState, algebra_of}
-use Rattle.edge_table.proofs.Passes.{seen-network, IsRefreshed-none, IsRefreshed-more, IsRefreshed-all}
+use Rattle.edge_table.proofs.Passes.{seen-network, ReadsSome-same, IsRefreshed-none, IsRefreshed-more, IsRefreshed-all}
 use Rattle.edge_table.proofs.open_net.OpenNet.refresh.Goals as goal
 
 pub loop-edge-init : goal.loop-edge-init
@@ -22,7 +22,10 @@ loop-edge-preserved c =
 pub returns-clause-reads : goal.returns-clause-reads
 returns-clause-reads c =
     let h = c.loop-edge.invariant.sofar in
-    record { rest = h.rest; length_is = h.length_is; within = h.within }
+    let nodes = c.self.invariant.nodes_are ∙ ap (λ (t : OpenState). t.opening.nodes) c.self.view_is in
+    let end : edge_count c.args.self.now.opening.nodes ≤ c.loop-edge.edge = subst (λ x. edge_count x ≤ c.loop-edge.edge) nodes c.loop-edge-test.false in
+    let all : c.loop-edge.edge ≡ edge_count c.args.self.now.opening.nodes = omega (arith, end, h.bounded) in
+    ReadsSome-same c.loop-edge.edge (edge_count c.args.pass.now.nodes) c.args.pass.now c.loop-edge.pass (all ∙ ap edge_count (sym c.requires.pass.nodes)) h.reads
 
 pub returns-clause-snap : goal.returns-clause-snap
 returns-clause-snap c =
@@ -43,7 +46,7 @@ returns-clause-network c =
     let end : edge_count n ≤ c.loop-edge.edge = subst (λ x. edge_count x ≤ c.loop-edge.edge) nodes c.loop-edge-test.false in
     let own = rw (← c.pass.view_is) at c.requires.pass in
     let net : IsNetwork m c.args.pass.now.nodes c.args.pass.now.actor.seen = subst (λ (p : PassState). IsNetwork m p.nodes p.actor.seen) c.pass.view_is
-    (seen-network m c.pass.inside.nodes c.pass.inside.full c.pass.inside.seat.me.0 own.full c.pass.invariant.proper) in
-    let seen = IsNetwork-refines m n c.loop-edge.pass.actor.seen c.args.pass.now.actor.seen (subst (λ k. IsNetwork m k c.args.pass.now.actor.seen) c.requires.pass.nodes net) h.length_is h.within in
+    (seen-network m c.pass.inside.nodes c.pass.inside.full c.pass.inside.seat.me.0.actor own.full c.pass.invariant.proper) in
+    let seen = IsNetwork-refines m n c.loop-edge.pass.actor.seen c.args.pass.now.actor.seen (subst (λ k. IsNetwork m k c.args.pass.now.actor.seen) c.requires.pass.nodes net) h.reads.length_is h.reads.within in
     let size : length c.args.pass.now.actor.seen ≡ edge_count n = net.length_is ∙ ap (λ x. edge_count x) c.requires.pass.nodes in
     subst (λ (ws : List ℕ). IsNetwork m n ws) (sym (IsRefreshed-all c.args.pass.now c.loop-edge.pass c.loop-edge.snap (edge_count n) c.loop-edge.edge h end size)) seen

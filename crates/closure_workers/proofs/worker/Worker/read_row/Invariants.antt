@@ -1,0 +1,15 @@
+use Rattle.std.proofs.Common.{◌-◌, ◌≤◌}
+use Rattle.edge_table.specs.Opening.{algebra_of}
+use Rattle.slice_copy.specs.Copies.{TakesOver}
+use Rattle.closure_workers.specs.Workers.{WorksOn}
+use Rattle.closure_workers.proofs.worker.Worker.read_row.Given as goal
+
+abbrev pub invariant-loop-edge : goal.invariant-loop-edge
+invariant-loop-edge g l = record {
+  works_on : WorksOn l.site.table.now l.fn.self l.self;
+  copy : TakesOver (algebra_of l.site.table.now.opening) l.fn.self.desk.copy l.self.desk.copy;
+  order : l.first ≤ l.from;
+}
+
+abbrev pub decreases-loop-edge : goal.decreases-loop-edge
+decreases-loop-edge g l = l.end - l.from

@@ -1,8 +1,0 @@
-use Rattle.std.proofs.Common.{◌<◌, ℕ}
-use Rattle.edge_slices.specs.Slices.{Looks, IsListedClosed}
-use Rattle.edge_slices.proofs.slices.narrow_row.Given as goal
-
-abbrev pub invariant-loop-k : goal.invariant-loop-k
-invariant-loop-k g l = record {
-  looks : Looks l.table (λ words. (k : ℕ) → l.i < k → k < l.k → IsListedClosed (g.C.Compose.algebra l.c) l.table.opening.nodes l.from l.to l.i k words) l.fn.pass l.pass l.snap l.less;
-}

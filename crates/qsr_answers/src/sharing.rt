@@ -1,0 +1,82 @@
+//! How many workers close a network. A number that the words name is obeyed. Where they name none, four workers share
+//! the edges of a network out if that pays, and else one closes it on the thread that is there, which starts no other.
+//!
+//! Sharing pays where the work is large and each worker does its part of it once: on a dense network of small sets
+//! they sweep rows, and make few sets less. Elsewhere each takes the edges that became less off a queue of its own, and
+//! composes again what the others have found. So three things are asked of a network, and the last two of every
+//! sixteenth set of it, as reading all of them would take a tenth of what four workers gain at 256 nodes.
+ghost use Rattle.std.specs.Prelude.{◌≡◌, ◌*◌, ◌≤◌, IfSome};
+ghost use Rattle.calculus_table.specs.declared.TheConstants.{MAX_BASES};
+ghost use Rattle.network_words.specs.declared.TheConstants.{MAX_NODES};
+ghost use Rattle.qsr_words.specs.Requests.{AreWorkers, AreWorkersIfNamed};
+
+use calculus_table::{Compose, Rel};
+use network_words::Net;
+use qsr_words::{MIN_WORKERS, USUAL_WORKERS};
+
+/// The least work that is shared out: that of 250 nodes over 8 base relations, of 213 over 13, or of 125 over 64. With
+/// every pair stated, four workers took 0.5 of the time of one over 256 regions and over 256 intervals, 0.7 over 182
+/// nodes of 64 base relations and 0.9 over 128 of them, but 1.0 over 128 regions.
+const SHARED_WORK: u64 = 125_000_000;
+
+/// Of the sets, one in so many is looked at.
+const STRIDE: usize = 16;
+
+/// The part of the base relations that the sets have in the mean, at most, where edges are shared out: five eighths.
+/// Four workers took 0.8 of the time of one over 256 regions where sets had two to five more relations than the true
+/// one, and 1.3 where they had three to six more.
+const SMALL_PART: (u64, u64) = (5, 8);
+
+/// How many workers close the network: as many as are named, or else four where its edges are shared out, and one where
+/// they aren't.
+pub(crate) fn workers_for<C: Compose>(net: &Net, c: &C, named: Option<u32>) -> u32
+    requires { AreWorkersIfNamed named }
+    ensures named { IfSome named (λ workers. result ≡ workers) }
+    ensures within { AreWorkers result }
+{
+    match named {
+        Some(workers) => workers,
+        None if is_shared(net, c) => USUAL_WORKERS,
+        None => MIN_WORKERS,
+    }
+}
+
+/// Whether it pays to share the edges of the network out: where there is work enough, and most edges are stated, by
+/// small sets.
+fn is_shared<C: Compose>(net: &Net, c: &C) -> bool {
+    work(net.nodes(), c.size()) >= SHARED_WORK
+        && are_mostly_stated(net.words(), c.full())
+        && are_small(net.words(), c.size())
+}
+
+/// What closing takes, as far as the sizes tell: the cube of the number of nodes, times that of base relations.
+fn work(nodes: u32, size: u32) -> u64
+    requires nodes { nodes ≤ MAX_NODES }
+    requires size { size ≤ MAX_BASES }
+    ensures { result ≡ nodes * nodes * nodes * size }
+{
+    let nodes = u64::from(nodes);
+    nodes * nodes * nodes * u64::from(size)
+}
+
+/// Whether more of the sets that are looked at are stated than have all base relations. On chains of 256 nodes, and
+/// where each has twelve stated edges, four workers that shared the edges took 1.4 to 3.5 times as long as one.
+fn are_mostly_stated(words: &[u64], full: Rel) -> bool {
+    let looked = words.iter().step_by(STRIDE);
+    let stated = looked.filter(|word| **word != full.word()).count();
+    let rest = words.iter().step_by(STRIDE);
+    let left = rest.filter(|word| **word == full.word()).count();
+    stated > left
+}
+
+/// Whether the sets that are looked at have the small part of so many base relations in the mean, or less.
+fn are_small(words: &[u64], size: u32) -> bool {
+    let (part, whole) = SMALL_PART;
+    let members = words.iter().step_by(STRIDE).fold(
+        0,
+        |sum: u64, word| sum.saturating_add(u64::from(word.count_ones())),
+    );
+    let looked = words.len().div_ceil(STRIDE) as u64;
+    let most = looked.saturating_mul(u64::from(size));
+    members.saturating_mul(whole) <= most.saturating_mul(part)
+}
