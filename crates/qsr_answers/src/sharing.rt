@@ -4,7 +4,7 @@
 //! Sharing pays where the work is large and each worker does its part of it once: on a dense network of small sets
 //! they sweep rows, and make few sets less. Elsewhere each takes the edges that became less off a queue of its own, and
 //! composes again what the others have found. So three things are asked of a network, and the last two of every
-//! sixteenth set of it, as reading all of them would take a tenth of what four workers gain at 256 nodes.
+//! sixteenth set of it, so that asking takes no time to speak of. `docs/PERFORMANCE.md` has the measures.
 ghost use Rattle.std.specs.Prelude.{◌≡◌, ◌*◌, ◌≤◌, IfSome};
 ghost use Rattle.calculus_table.specs.declared.TheConstants.{MAX_BASES};
 ghost use Rattle.network_words.specs.declared.TheConstants.{MAX_NODES};
@@ -14,17 +14,17 @@ use calculus_table::{Compose, Rel};
 use network_words::Net;
 use qsr_words::{MIN_WORKERS, USUAL_WORKERS};
 
-/// The least work that is shared out: that of 250 nodes over 8 base relations, of 213 over 13, or of 125 over 64. With
-/// every pair stated, four workers took 0.5 of the time of one over 256 regions and over 256 intervals, 0.7 over 182
-/// nodes of 64 base relations and 0.9 over 128 of them, but 1.0 over 128 regions.
-const SHARED_WORK: u64 = 125_000_000;
+/// The least work that is shared out: that of 249 nodes over 13 base relations, or of 147 over 64; over 8 none is. With
+/// every pair stated, four workers took 0.84 to 0.97 of the time of one over 256 intervals, but 1.07 to 1.22 over 256
+/// regions and 1.24 over 128 intervals, in whole runs of `close`.
+const SHARED_WORK: u64 = 200_000_000;
 
 /// Of the sets, one in so many is looked at.
 const STRIDE: usize = 16;
 
 /// The part of the base relations that the sets have in the mean, at most, where edges are shared out: five eighths.
-/// Four workers took 0.8 of the time of one over 256 regions where sets had two to five more relations than the true
-/// one, and 1.3 where they had three to six more.
+/// Over 256 intervals four workers took less time than one where sets had up to four relations beside the true one, and
+/// as long as one where they had half of all.
 const SMALL_PART: (u64, u64) = (5, 8);
 
 /// How many workers close the network: as many as are named, or else four where its edges are shared out, and one where
@@ -60,7 +60,7 @@ fn work(nodes: u32, size: u32) -> u64
 }
 
 /// Whether more of the sets that are looked at are stated than have all base relations. On chains of 256 nodes, and
-/// where each has twelve stated edges, four workers that shared the edges took 1.4 to 3.5 times as long as one.
+/// where each has twelve stated edges, four workers took 1.4 to 1.6 times as long as one.
 fn are_mostly_stated(words: &[u64], full: Rel) -> bool {
     let looked = words.iter().step_by(STRIDE);
     let stated = looked.filter(|word| **word != full.word()).count();
