@@ -6,6 +6,7 @@ Usage: tools/expected_answers.py close CALC < NETWORK
        tools/expected_answers.py check CALC CERT [--polygons P] < NETWORK
        tools/expected_answers.py trace CALC CERT [--polygons P] < NETWORK
        tools/expected_answers.py relate P [--pattern T]
+       tools/expected_answers.py scene P
        tools/expected_answers.py demo SEED NODES
 
 It writes the bytes that the program has to write, and ends with its status. Nothing is fast here: a network is closed by
@@ -761,6 +762,15 @@ def relate(words, _):
     return "".join(lines), DONE
 
 
+def scene(words, _):
+    polygons = read_polygons(read_file(words.polygons))
+    if not polygons:
+        raise Refused(52)
+    net = Network(calculus_of("rcc8"), len(polygons), [name for name, _ in polygons])
+    state_facts(net, polygons)
+    return net.text(), DONE
+
+
 def demo(words, _):
     net, kept = demo_network(words.seed, words.nodes)
     bits = sum(bin(word).count("1") for word in net.closed().words.values())
@@ -775,7 +785,8 @@ def arguments():
     for answer, name, places, options in (
             (close, "close", "calculus", "workers"), (solve, "solve", "calculus", "class polygons budget cert workers"),
             (check_command, "check", "calculus certificate", "polygons"), (trace, "trace", "calculus certificate", "polygons"),
-            (relate, "relate", "polygons", "pattern"), (demo, "demo", "seed nodes", "")):
+            (relate, "relate", "polygons", "pattern"), (scene, "scene", "polygons", ""),
+            (demo, "demo", "seed nodes", "")):
         command = commands.add_parser(name)
         command.set_defaults(answer=answer)
         for place in places.split():

@@ -1,11 +1,12 @@
 pub mod Verdicts
-pub mod Atomic
 pub mod TracedOnce
 pub mod RelatedOnce
 pub mod CertificatesOnce
 pub mod PairTexts
 pub mod SeedVerdicts
+pub mod ScenesOnce
 pub mod RuledOut
+pub mod NeverNo
 pub mod SomeCertificates
 pub mod AnswersOnce
 pub mod SomeAnswers

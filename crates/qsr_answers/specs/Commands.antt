@@ -17,6 +17,8 @@ use Rattle.qsr_answers.specs.Texts.{accepted_text, not_accepted_text}
 use Rattle.qsr_answers.specs.Verdicts.{answer_text, verdict_status, RulesOut}
 use Rattle.qsr_answers.specs.Certificates.{IsAccepted, IsNotAccepted, IsTracedForm, RulesOutScenarios}
 use Rattle.qsr_answers.specs.Relations.{IsTextOfPolygons}
+use Rattle.qsr_answers.specs.Scenes.{IsSceneText}
+use Rattle.geo_facts.specs.PolygonFile.{NamedRing}
 
 -- ---- close
 
@@ -92,6 +94,11 @@ pub record TracesNetwork (c : NamedAlgebra) (certificate : Certificate) (net : N
 
 abbrev pub RelatesPolygons : Related → List ℕ → Status → Type 0
 RelatesPolygons related text status = IsTextOfPolygons related text × (status ≡ Done)
+
+-- ---- scene
+
+abbrev pub DrawsScene : List NamedRing → List ℕ → Status → Type 0
+DrawsScene polygons text status = IsSceneText polygons text × (status ≡ Done)
 
 -- ---- every command
 

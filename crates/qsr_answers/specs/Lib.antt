@@ -3,6 +3,7 @@ pub mod Failures
 pub mod Certificates
 pub mod Verdicts
 pub mod Relations
+pub mod Scenes
 pub mod Demonstrations
 pub mod Commands
 pub use Rattle.network_words.specs.Network

@@ -14,6 +14,7 @@ mod demonstrating;
 mod failures;
 mod relating;
 mod sharing;
+mod sketching;
 mod solving;
 mod tracing;
 
@@ -22,5 +23,6 @@ pub use checking::checked_answer;
 pub use closing::closed_answer;
 pub use demonstrating::demonstration;
 pub use relating::text_of_pairs;
+pub use sketching::scene_text;
 pub use solving::solved_answer;
 pub use tracing::traced_answer;

@@ -1,7 +1,6 @@
 //! The command `solve`: a network is closed, and searched for a scenario. The verdict is written.
-ghost use Rattle.std.specs.Prelude.{◌≡◌, ℕ, ◌^◌, ◌<◌, ◌++◌, length, map, slice_index, codes, IfOk};
+ghost use Rattle.std.specs.Prelude.{◌≡◌, ◌^◌, ◌<◌, ◌++◌, length, map, codes, IfOk};
 ghost use Rattle.std.specs.String.{string_bytes};
-ghost use Rattle.network_words.specs.Edge.{edge_count};
 ghost use Rattle.network_words.specs.Network.{IsNetwork};
 ghost use Rattle.network_words.specs.Scenario.{IsScenario, as_network};
 ghost use Rattle.network_file.specs.NetworkText.{network_text};
@@ -16,7 +15,7 @@ ghost use Rattle.qsr_answers.specs.Verdicts.{HasScenario, verdict_word, verdict_
 
 use crate::answers::Answer;
 use crate::sharing::workers_for;
-use calculus_table::{Calculus, Memory, Rel, lawful};
+use calculus_table::{Calculus, Memory, lawful};
 use cert_file::{Cert, Claim};
 use closure_workers::close_parallel;
 use compose_fast::Fast;
@@ -26,7 +25,7 @@ use qsr_inputs::{GuidedCalculus, Status};
 use qsr_outside::Gate;
 use qsr_words::Solve;
 use refutation::Tree;
-use scenario::Scenario;
+use scenario::{Scenario, make_atomic};
 use split_search::{Verdict, solve};
 use std::alloc::Global;
 use std::thread::Threads;
@@ -187,17 +186,4 @@ fn line(alloc: Global, word: &str, tree: &Tree) -> Result<String, Memory>
         return Err(Memory);
     };
     Ok(line)
-}
-
-/// Leaves each edge the base relation of the scenario alone.
-fn make_atomic(net: &mut Net, scenario: &Scenario)
-    requires length_is { length net.old.words ≡ edge_count net.old.nodes }
-    requires each { length scenario.now ≡ edge_count net.old.nodes }
-    requires below { (e : ℕ) → e < edge_count net.old.nodes → slice_index scenario.now e < 64 }
-    ensures { net.new ≡ record net.old { words = as_network scenario.now } }
-{
-    for edge in 0..net.edges() {
-        let base = scenario.bases[edge as usize];
-        net.set(edge, Rel::single(u32::from(base)));
-    }
 }

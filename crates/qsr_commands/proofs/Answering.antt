@@ -11,9 +11,9 @@ use Rattle.qsr_outside.specs.Counts.{Rose}
 use Rattle.qsr_outside.specs.Writing.{AppendsPart}
 use Rattle.qsr_outside.specs.declared.reading.ReadStop.{ReadStop}
 use Rattle.qsr_outside.specs.declared.reading.ReadStop.TheVariants as read
-use Rattle.qsr_words.specs.Asked.{Asked, close, solve, check, trace, relate, serve, demo}
+use Rattle.qsr_words.specs.Asked.{Asked, serve, demo}
 use Rattle.qsr_inputs.specs.Stops.{IsTooLongStop}
-use Rattle.qsr_inputs.specs.Told.{WhereTold, SourceWaits, told_documents, told_source, is_served}
+use Rattle.qsr_inputs.specs.Told.{WhereTold, SourceWaits, told_documents, told_source, reads_source, is_served}
 use Rattle.qsr_inputs.specs.declared.stops.Stop.{Stop}
 use Rattle.qsr_inputs.specs.declared.stops.Stop.TheVariants as stop
 use Rattle.qsr_inputs.specs.declared.statuses.Place.{Place}
@@ -26,10 +26,10 @@ use Rattle.qsr_answers.specs.declared.answers.Answer.{Answer}
 use Rattle.qsr_commands.specs.Output.{Output}
 use Rattle.qsr_commands.specs.Ends.{MayEnd, IsUsageEnd, IsLongEnd, end_of_stop}
 use Rattle.qsr_commands.specs.SinkAfter.{LeavesInSink, LeavesByStatus, LeavesAtReadFault, LeavesAtWriteFault, LeavesOutOfMemory, WritesPart, IsWritten, IsTextOf}
-use Rattle.qsr_commands.specs.Answers.{Answers, AnswersWords, OutputOfStop}
+use Rattle.qsr_commands.specs.Answers.{Answers, AnswersAlone, AnswersWords, OutputOfStop}
 use Rattle.qsr_commands.specs.Spoken.{IsSpoken, IsWriting, Tells}
 use Rattle.qsr_commands.specs.Runs.{Runs}
-use Rattle.qsr_commands.proofs.CommandAnswers.{waits_same, memory_may_end}
+use Rattle.qsr_commands.proofs.CommandAnswers.{waits_same, memory_may_end, answers_alone}
 
 -- ---- what is told
 
@@ -74,7 +74,8 @@ module _ {F S : Type 0} (documents : F → Option Documents) (faults given absen
     }
 
     -- the line of a refusal
-    spoken_line : (number : ℕ) (place : Place) (x : Answer) → IsSpoken (Err (stop.Refused number place)) (Ok x) → AnswersIt (Err (stop.Refused number place)) → AnswersThem (Some asked) (Ok x)
+    spoken_line : (number : ℕ) (place : Place) (x : Answer) → IsSpoken (Err (stop.Refused number place)) (Ok x) →
+        AnswersIt (Err (stop.Refused number place)) → AnswersThem (Some asked) (Ok x)
     spoken_line number place x spoken h = record {
       output = WhereTold-weaker (Some asked) (documents old) (left s) _ _ (λ d b o.
           subst (λ r. Output (Some asked) d b (string_bytes x.text) r) (sym spoken.0) (subst (λ l. Output (Some asked) d b l (Refused number place)) (sym spoken.1) o)) h.cause;
@@ -96,7 +97,8 @@ module _ {F S : Type 0} (documents : F → Option Documents) (faults given absen
 
     -- a stop that is no line
     module _ (k : Stop) (e : ReadStop) (h : AnswersIt (Err k)) where
-      unspoken : MayEnd (Some asked) (end_of_stop e) → (e ≡ read.TooLong → k ≡ stop.TooLong) → (e ≡ read.ReadFault → k ≡ stop.ReadFault) → (k ≡ stop.ReadFault → e ≡ read.ReadFault) →
+      unspoken : MayEnd (Some asked) (end_of_stop e) → (e ≡ read.TooLong → k ≡ stop.TooLong) →
+          (e ≡ read.ReadFault → k ≡ stop.ReadFault) → (k ≡ stop.ReadFault → e ≡ read.ReadFault) →
           (IsTooLongStop {A = Answer} (Err k) → IsTooLongRead {T = Answer} (Err e)) → AnswersThem (Some asked) (Err e)
       unspoken may long reads told above = record {
         output = tt;
@@ -117,11 +119,13 @@ module _ {F S : Type 0} (documents : F → Option Documents) (faults given absen
       }
 
     -- where memory runs out before the line of a refusal is made
-    no_line : (number : ℕ) (place : Place) (e : ReadStop) → e ≡ read.Memory → AnswersIt (Err (stop.Refused number place)) → AnswersThem (Some asked) (Err e)
+    no_line : (number : ℕ) (place : Place) (e : ReadStop) → e ≡ read.Memory →
+        AnswersIt (Err (stop.Refused number place)) → AnswersThem (Some asked) (Err e)
     no_line number place e is h = subst (λ x. AnswersThem (Some asked) (Err x)) (sym is)
         (unspoken (stop.Refused number place) read.Memory h (memory_may_end asked) (λ i. absurd cc) (λ i. absurd cc) (λ i. absurd cc) (λ i. absurd i))
 
-    pub spoken : (r : Result Answer Stop) (x : Result Answer ReadStop) → IsSpoken r x → AnswersIt r → AnswersThem (Some asked) x
+    pub spoken : (r : Result Answer Stop) (x : Result Answer ReadStop) → IsSpoken r x → AnswersIt r →
+        AnswersThem (Some asked) x
     spoken (Ok x) r is h = subst (AnswersThem (Some asked)) (sym is) (spoken_ok x h)
     spoken (Err (stop.Refused number place)) (Ok x) is h = spoken_line number place x is h
     spoken (Err (stop.Refused number place)) (Err e) is h = no_line number place e is h
@@ -144,7 +148,8 @@ module _ {F S : Type 0} (documents : F → Option Documents) (faults given absen
   memory_end (Some asked) = memory_may_end asked
 
   -- since memory ran out
-  pub memory_answers : (asked : Option Asked) → AnswersWords documents faults given absent left source_faults source_given asked old old s s (Err read.Memory)
+  pub memory_answers : (asked : Option Asked) →
+      AnswersWords documents faults given absent left source_faults source_given asked old old s s (Err read.Memory)
   memory_answers asked = record {
     output = tt;
     written = tt;
@@ -167,7 +172,8 @@ module _ {F S : Type 0} (documents : F → Option Documents) (faults given absen
   usage_ends status e is = absurd (subst IsAnswered e is)
 
   -- since the words ask for nothing
-  pub usage_answers : (asked : Option Asked) (x : Answer) → None ≡ asked → x.status ≡ Usage → string_bytes x.text ≡ usage_text →
+  pub usage_answers : (asked : Option Asked) (x : Answer) → None ≡ asked → x.status ≡ Usage →
+      string_bytes x.text ≡ usage_text →
       AnswersWords documents faults given absent left source_faults source_given asked old old s s (Ok x)
   usage_answers asked x none status text = subst (λ k. AnswersWords documents faults given absent left source_faults source_given k old old s s (Ok x)) none (record {
     output = (status, text);
@@ -190,35 +196,20 @@ module _ {F S : Type 0} (documents : F → Option Documents) (faults given absen
 -- ---- writing
 
 -- nothing is written, and a part, by a command that writes its answer whole
-unserved_fault : (asked : Option Asked) (d : Documents) (b : List ℕ) (left old new : Option (List ℕ)) → is_served asked ≡ false → Keeps old new → LeavesAtReadFault asked d b left old new
-unserved_fault None d b left old new whole k = k
-unserved_fault (Some (close a)) d b left old new whole k = k
-unserved_fault (Some (solve a)) d b left old new whole k = k
-unserved_fault (Some (check a)) d b left old new whole k = k
-unserved_fault (Some (trace a)) d b left old new whole k = k
-unserved_fault (Some (relate a)) d b left old new whole k = k
+unserved_fault : (asked : Option Asked) (d : Documents) (b : List ℕ) (left old new : Option (List ℕ)) →
+    is_served asked ≡ false → Keeps old new → LeavesAtReadFault asked d b left old new
 unserved_fault (Some (serve a)) d b left old new whole k = absurd (false≢true (sym whole))
-unserved_fault (Some (demo a)) d b left old new whole k = k
+unserved_fault _ d b left old new whole k = k
 
-pub kept_memory : (asked : Option Asked) (d : Documents) (b : List ℕ) (old new : Option (List ℕ)) → Keeps old new → LeavesOutOfMemory asked d b old new
-kept_memory None d b old new k = k
-kept_memory (Some (close a)) d b old new k = k
-kept_memory (Some (solve a)) d b old new k = k
-kept_memory (Some (check a)) d b old new k = k
-kept_memory (Some (trace a)) d b old new k = k
-kept_memory (Some (relate a)) d b old new k = k
+pub kept_memory : (asked : Option Asked) (d : Documents) (b : List ℕ) (old new : Option (List ℕ)) → Keeps old new →
+    LeavesOutOfMemory asked d b old new
 kept_memory (Some (serve a)) d b old new k = inl k
-kept_memory (Some (demo a)) d b old new k = k
+kept_memory _ d b old new k = k
 
-part_at_fault : (asked : Option Asked) (d : Documents) (b : List ℕ) (left old new : Option (List ℕ)) → WritesPart asked d b old new → LeavesAtWriteFault asked d b left old new
-part_at_fault None d b left old new w = w
-part_at_fault (Some (close a)) d b left old new w = w
-part_at_fault (Some (solve a)) d b left old new w = w
-part_at_fault (Some (check a)) d b left old new w = w
-part_at_fault (Some (trace a)) d b left old new w = w
-part_at_fault (Some (relate a)) d b left old new w = w
+part_at_fault : (asked : Option Asked) (d : Documents) (b : List ℕ) (left old new : Option (List ℕ)) →
+    WritesPart asked d b old new → LeavesAtWriteFault asked d b left old new
 part_at_fault (Some (serve a)) d b left old new w = inl w
-part_at_fault (Some (demo a)) d b left old new w = w
+part_at_fault _ d b left old new w = w
 
 whole_answer : (asked : Option Asked) (d : Documents) (b : List ℕ) (left old new : Option (List ℕ)) (text : List ℕ) (status : Status) → IsTextOf text status → Appends old new text →
     Output asked d b text status → LeavesInSink asked d b left old new status
@@ -230,7 +221,8 @@ whole_answer asked d b left old new text (Refused number place) w a o = record {
 whole_answer asked d b left old new text (NotAccepted number place) w a o = record { text = text; appended = a; output = o }
 whole_answer asked d b left old new text _ w a o = absurd w
 
-text_by_status : (asked : Option Asked) (old new : Option (List ℕ)) (text : List ℕ) (status : Status) → IsTextOf text status → Appends old new text → LeavesByStatus asked old new status
+text_by_status : (asked : Option Asked) (old new : Option (List ℕ)) (text : List ℕ) (status : Status) →
+    IsTextOf text status → Appends old new text → LeavesByStatus asked old new status
 text_by_status asked old new text Done w a = tt
 text_by_status asked old new text No w a = tt
 text_by_status asked old new text Budget w a = tt
@@ -251,14 +243,8 @@ usage_alone text Memory m w = absurd w
 usage_alone text _ m w = absurd m
 
 pub fault_end : (asked : Option Asked) → MayEnd asked WriteFault
-fault_end None = tt
-fault_end (Some (close a)) = tt
-fault_end (Some (solve a)) = tt
-fault_end (Some (check a)) = tt
-fault_end (Some (trace a)) = tt
-fault_end (Some (relate a)) = tt
-fault_end (Some (serve a)) = tt
 fault_end (Some (demo a)) = tt
+fault_end _ = tt
 
 -- ---- a run, from its answer
 
@@ -302,7 +288,8 @@ module _ {F S W : Type 0} (documents : F → Option Documents) (faults given abs
     }
 
     -- the sink fails
-    failed_runs : AppendsPart (held k) (held l) (string_bytes a.text) → Rose (sink_faults k) (sink_faults l) → RunsTo WriteFault
+    failed_runs : AppendsPart (held k) (held l) (string_bytes a.text) → Rose (sink_faults k) (sink_faults l) →
+        RunsTo WriteFault
     failed_runs part rose = record {
       output = WhereTold-weaker asked (documents old) (left s) _ _ (λ d b out. part_at_fault asked d b (left t) (held k) (held l)
           (record { text = string_bytes a.text; status = a.status; appended = part; output = out })) h.output;
@@ -343,7 +330,8 @@ module _ {F S W : Type 0} (documents : F → Option Documents) (faults given abs
   abbrev IsQuiet : Type 0
   IsQuiet = WhereTold asked (documents old) (left s) (λ d b. LeavesAtReadFault asked d b (left t) (held k) (held k))
 
-  stopped_output : (e : ReadStop) → IsQuiet → (e ≡ read.TooLong → WhereTold asked (documents old) (left s) (λ d b. Output asked d b [] TooLong)) →
+  stopped_output : (e : ReadStop) → IsQuiet →
+      (e ≡ read.TooLong → WhereTold asked (documents old) (left s) (λ d b. Output asked d b [] TooLong)) →
       WhereTold asked (documents old) (left s) (λ d b. LeavesInSink asked d b (left t) (held k) (held k) (end_of_stop e))
   stopped_output read.ReadFault quiet long = quiet
   stopped_output read.Memory quiet long = WhereTold-always asked (documents old) (left s) _ (λ d b. kept_memory asked d b (held k) (held k) (Keeps-refl (held k)))
@@ -380,7 +368,8 @@ module _ {F S W : Type 0} (documents : F → Option Documents) (faults given abs
   long_end read.Memory i = tt
   long_end read.TooLong i = tt
 
-  pub stop_runs : (e : ReadStop) → IsQuiet → StopsBy e → Runs documents faults given absent left source_faults source_given held sink_faults asked old new s t k k (end_of_stop e)
+  pub stop_runs : (e : ReadStop) → IsQuiet → StopsBy e →
+      Runs documents faults given absent left source_faults source_given held sink_faults asked old new s t k k (end_of_stop e)
   stop_runs e quiet h = record {
     output = stopped_output e quiet (λ i. h.long_output (ap Err i));
     by_status = stopped_by_status e;
@@ -415,7 +404,8 @@ module _ {F S W : Type 0} (documents : F → Option Documents) (faults given abs
   quiet_whole : (asked : Option Asked) → is_served asked ≡ false → IsQuietRun asked
   quiet_whole asked whole = WhereTold-always asked (documents old) (left s) _ (λ d b. unserved_fault asked d b (left t) (held k) (held k) whole (Keeps-refl (held k)))
 
-  pub words_run : (asked : Option Asked) (x : Result Answer ReadStop) (r : Status) → IsQuietRun asked → sink_faults k ≤ sink_faults l →
+  pub words_run : (asked : Option Asked) (x : Result Answer ReadStop) (r : Status) → IsQuietRun asked →
+      sink_faults k ≤ sink_faults l →
       AnswersWords documents faults given absent left source_faults source_given asked old new s t x →
       MatchResult x (λ a. IsWriting held sink_faults (string_bytes a.text) a.status k l r) (λ e. (r ≡ end_of_stop e) × (l ≡ k)) → RunsFor asked r
   words_run asked (Ok a) r quiet fall h w = answer_runs documents faults given absent left source_faults source_given held sink_faults asked old new s t k l a h fall r w
@@ -425,16 +415,31 @@ module _ {F S W : Type 0} (documents : F → Option Documents) (faults given abs
       (stop_runs documents faults given absent left source_faults source_given held sink_faults asked old new s t k e quiet h))
 
   -- the run of words that ask for a command
-  pub command_runs : (asked : Asked) (words : Option Asked) (x : Result Answer Stop) (r : Status) → is_served (Some asked) ≡ false → Some asked ≡ words →
+  pub command_runs : (asked : Asked) (words : Option Asked) (x : Result Answer Stop) (r : Status) →
+      is_served (Some asked) ≡ false → Some asked ≡ words →
       Answers documents faults given absent left source_faults source_given asked old new s t x → Tells held sink_faults x k l r → RunsFor words r
   command_runs asked words x r whole e h w = subst (λ i. RunsFor i r) e
       (words_run (Some asked) w.spoken r (quiet_whole (Some asked) whole) w.faults_never_fall
       (spoken documents faults given absent left source_faults source_given old new s t asked x w.spoken w.is_spoken h) w.writes)
 
+-- the run of words that ask for a command that reads no source
+module _ {F S W : Type 0} (documents : F → Option Documents) (faults given absent : F → ℕ)
+    (left : S → Option (List ℕ)) (source_faults source_given : S → ℕ) (held : W → Option (List ℕ))
+    (sink_faults : W → ℕ) (old new : F) (s : S) (k l : W) where
+  pub alone_runs : (asked : Asked) (words : Option Asked) (x : Result Answer Stop) (r : Status) →
+      is_served (Some asked) ≡ false → reads_source asked ≡ false → Some asked ≡ words →
+      AnswersAlone documents faults given absent asked old new x → Tells held sink_faults x k l r →
+      Runs documents faults given absent left source_faults source_given held sink_faults words old new s s k l r
+  alone_runs asked words x r whole alone e h w =
+      command_runs documents faults given absent left source_faults source_given held sink_faults old new s s k l
+      asked words x r whole e
+      (answers_alone documents faults given absent left source_faults source_given asked alone old new s x h) w
+
 -- the run of words that ask for nothing
 module _ {F S W : Type 0} (documents : F → Option Documents) (faults given absent : F → ℕ) (left : S → Option (List ℕ)) (source_faults source_given : S → ℕ)
     (held : W → Option (List ℕ)) (sink_faults : W → ℕ) (old : F) (s : S) where
-  pub memory_runs : (asked : Option Asked) (k : W) → Runs documents faults given absent left source_faults source_given held sink_faults asked old old s s k k Memory
+  pub memory_runs : (asked : Option Asked) (k : W) →
+      Runs documents faults given absent left source_faults source_given held sink_faults asked old old s s k k Memory
   memory_runs asked k =
       let stop = memory_answers documents faults given absent left source_faults source_given old s asked in
       record {
@@ -459,7 +464,8 @@ module _ {F S W : Type 0} (documents : F → Option Documents) (faults given abs
       }
 
   module _ (k l : W) (r : Status) where
-    usage_words : (x : Result Answer Stop) (y : Result Answer ReadStop) → IsSpoken x y → MatchResult x (λ a. (a.status ≡ Usage) × (string_bytes a.text ≡ usage_text)) (λ e. e ≡ stop.Memory) →
+    usage_words : (x : Result Answer Stop) (y : Result Answer ReadStop) → IsSpoken x y →
+        MatchResult x (λ a. (a.status ≡ Usage) × (string_bytes a.text ≡ usage_text)) (λ e. e ≡ stop.Memory) →
         AnswersWords documents faults given absent left source_faults source_given None old old s s y
     usage_words (Ok a) y is u = subst (AnswersWords documents faults given absent left source_faults source_given None old old s s) (sym is)
         (usage_answers documents faults given absent left source_faults source_given old s None a refl u.0 u.1)

@@ -2,7 +2,7 @@
 use Rattle.std.specs.Prelude.{Option, None, Some}
 use Rattle.qsr_outside.specs.declared.reading.ReadStop.{ReadStop}
 use Rattle.qsr_outside.specs.declared.reading.ReadStop.TheVariants as stop
-use Rattle.qsr_words.specs.Asked.{Asked, close, solve, check, trace, relate, serve, demo}
+use Rattle.qsr_words.specs.Asked.{Asked, close, solve, check, trace, relate, scene, serve, demo}
 use Rattle.qsr_inputs.specs.declared.statuses.Status.{Status}
 use Rattle.qsr_inputs.specs.declared.statuses.Status.TheVariants.{Done, No, Usage, ReadFault, WriteFault, Memory, Budget, NotAccepted, TooLong}
 
@@ -26,7 +26,7 @@ IsCheckEnd Usage = ⊥
 IsCheckEnd Budget = ⊥
 IsCheckEnd status = Unit {0}
 
--- the ends of the command that relates polygons
+-- the ends of the commands that relate polygons and draw their scene
 abbrev pub IsRelateEnd : Status → Type 0
 IsRelateEnd No = ⊥
 IsRelateEnd Usage = ⊥
@@ -42,10 +42,9 @@ IsServeEnd Budget = ⊥
 IsServeEnd (NotAccepted number place) = ⊥
 IsServeEnd status = Unit {0}
 
--- the ends of the demonstration
+-- the ends of the demonstration, which never answers no
 abbrev pub IsDemoEnd : Status → Type 0
 IsDemoEnd Done = Unit {0}
-IsDemoEnd No = Unit {0}
 IsDemoEnd Budget = Unit {0}
 IsDemoEnd WriteFault = Unit {0}
 IsDemoEnd Memory = Unit {0}
@@ -66,6 +65,7 @@ MayEnd (Some (solve asked)) status = IsSolveEnd status
 MayEnd (Some (check asked)) status = IsCheckEnd status
 MayEnd (Some (trace asked)) status = IsCheckEnd status
 MayEnd (Some (relate asked)) status = IsRelateEnd status
+MayEnd (Some (scene asked)) status = IsRelateEnd status
 MayEnd (Some (serve asked)) status = IsServeEnd status
 MayEnd (Some (demo asked)) status = IsDemoEnd status
 

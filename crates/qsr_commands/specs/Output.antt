@@ -2,14 +2,15 @@
 -- and a status. Each command makes something of what the documents give and what the source gives.
 use Rattle.std.specs.Prelude.{◌≡◌, ◌⊎◌, ℕ, List, [], Option, None, Some, Ok, Err}
 use Rattle.qsr_outside.specs.Documents.{Documents}
-use Rattle.qsr_words.specs.Asked.{Asked, close, solve, check, trace, relate, serve, demo}
+use Rattle.qsr_words.specs.Asked.{Asked, close, solve, check, trace, relate, scene, serve, demo}
 use Rattle.qsr_inputs.specs.Stops.{refuses, is_long}
 use Rattle.qsr_inputs.specs.Given.{GivenTo, ReadBy, Input, InputOf}
 use Rattle.qsr_inputs.specs.declared.statuses.Status.{Status}
 use Rattle.qsr_inputs.specs.declared.statuses.Status.TheVariants.{Usage, Refused, ReadFault, WriteFault, Memory, TooLong}
 use Rattle.qsr_answers.specs.Texts.{usage_text, refusal_text}
 use Rattle.qsr_answers.specs.Demonstrations.{Demonstrates}
-use Rattle.qsr_answers.specs.Commands.{ClosesNetwork, SolvesNetwork, ChecksNetwork, TracesNetwork, RelatesPolygons}
+use Rattle.qsr_answers.specs.Commands.{ClosesNetwork, SolvesNetwork, ChecksNetwork, TracesNetwork}
+use Rattle.qsr_answers.specs.Commands.{RelatesPolygons, DrawsScene}
 use Rattle.qsr_commands.specs.Serving.{ServesScript}
 
 -- ---- what each command makes of what it is given
@@ -21,6 +22,7 @@ Makes (solve asked) given net = SolvesNetwork asked given.guided.calculus given.
 Makes (check asked) given net = ChecksNetwork given.calculus given.certificate net
 Makes (trace asked) given net = TracesNetwork given.calculus given.certificate net
 Makes (relate asked) given read = RelatesPolygons given
+Makes (scene asked) polygons read = DrawsScene polygons
 Makes (serve asked) c script = ServesScript asked c script
 Makes (demo asked) given read = Demonstrates asked
 

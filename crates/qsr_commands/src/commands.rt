@@ -2,22 +2,23 @@
 //! and makes its answer of both.
 ghost use Rattle.std.specs.Prelude.{◌≡◌, IfOk, IfErr};
 ghost use Rattle.std.specs.String.{string_bytes};
-ghost use Rattle.qsr_words.specs.Asked.{close, solve, check, trace, relate};
-ghost use Rattle.qsr_words.specs.Requests.{close_of, solve_of, check_of, relate_of, demo_of};
+ghost use Rattle.qsr_words.specs.Asked.{close, solve, check, trace, relate, scene};
+ghost use Rattle.qsr_words.specs.Requests.{close_of, solve_of, check_of, relate_of, scene_of, demo_of};
 ghost use Rattle.qsr_words.specs.Requests.{AreWorkersIfNamed, IsSearch, IsCheck, IsDemo};
 ghost use Rattle.qsr_answers.specs.Demonstrations.{Demonstrates};
 ghost use Rattle.qsr_commands.specs.Answers.{Answers, AnswersAlone};
 
 use calculus_table::{Memory, lawful};
 use qsr_answers::{
-    Answer, checked_answer, closed_answer, demonstration, solved_answer, text_of_pairs,
+    Answer, checked_answer, closed_answer, demonstration, scene_text, solved_answer, text_of_pairs,
     traced_answer,
 };
 use qsr_inputs::{
-    Status, Stop, calculus, network, placed_network, read_claimed, read_related, read_searched,
+    Status, Stop, calculus, network, placed_network, read_claimed, read_drawn, read_related,
+    read_searched,
 };
 use qsr_outside::{Gate, Shelf, Source};
-use qsr_words::{Check, Close, Demo, Relate, Solve};
+use qsr_words::{Check, Close, Demo, Relate, Scene, Solve};
 use std::alloc::Global;
 use std::thread::Threads;
 
@@ -117,6 +118,26 @@ pub fn relate_answer<F: Shelf>(
 {
     let related = read_related(alloc, shelf, request)?;
     match text_of_pairs(alloc, &related.polygons.list, &related.pattern) {
+        Ok(text) => Ok(Answer {
+            text,
+            status: Status::Done,
+        }),
+        Err(Memory) => Err(Stop::Memory),
+    }
+}
+
+/// What `scene` writes: the network that the polygons draw; or why nothing.
+pub fn scene_answer<R: Threads + Sync, F: Shelf>(
+    rt: &R,
+    alloc: Global,
+    request: &Scene,
+    shelf: &mut F,
+) -> Result<Answer, Stop>
+    ensures { AnswersAlone F.documents F.faults F.given F.absent_openings
+        (scene (scene_of request.now)) shelf.old shelf.new result }
+{
+    let polygons = read_drawn(alloc, shelf, request)?;
+    match scene_text(rt, alloc, &polygons.list) {
         Ok(text) => Ok(Answer {
             text,
             status: Status::Done,

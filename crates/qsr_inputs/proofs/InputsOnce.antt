@@ -1,5 +1,6 @@
 -- Each input has one value or one cause.
-use Rattle.std.proofs.Common.{◌≡◌, ◌≢◌, ℕ, ◌<◌, List, length, Option, None, Some, Result, Ok, Err, refl, sym, ◌∙◌, ap, subst, arith}
+use Rattle.std.proofs.Common.{◌≡◌, ◌≢◌, ℕ, ◌<◌, List, [], ◌∷◌, length, Option, None, Some, Result, Ok, Err, refl, sym}
+use Rattle.std.proofs.Common.{◌∙◌, ap, subst, arith}
 use Rattle.std.specs.Prelude.{IsSomeAnd, MatchOption, slice_index}
 use Rattle.std.proofs.lemmas.List.{same_lists, get_or_default, length-map}
 use Rattle.calculus_table.specs.Calculus.{NamedAlgebra}
@@ -32,11 +33,17 @@ use Rattle.geo_facts.specs.declared.fault.FactFault.TheVariants as fact
 use Rattle.geo_facts.proofs.OneAnswer.{file-one, file_fault-one, file-no_fault}
 use Rattle.geo_facts.proofs.OneFacts.{facts-one, fact_fault-one, nodes-no_fault}
 use Rattle.qsr_outside.specs.Documents.{Documents, document}
-use Rattle.qsr_words.specs.Asked.{Asked, close, solve, check, trace, relate, serve, demo}
+use Rattle.qsr_words.specs.Asked.{Asked, close, solve, check, trace, relate, scene, serve, demo}
 use Rattle.qsr_inputs.specs.Stops.{Cause, refuses, is_long}
 use Rattle.qsr_inputs.specs.Parts.{Then, IsOne}
 use Rattle.qsr_inputs.specs.Numbers.{load_refusal, class_refusal, file_refusal, cert_refusal, geo_refusal, fact_refusal, pattern_refusal}
-use Rattle.qsr_inputs.specs.Inputs.{BytesWithin, DocumentOf, TableOf, RefusesTable, CalculusOf, builtin_of, ClassFileOf, RefusesClass, ClassOf, builtin_class, IsGuided, CalculusAndClass, CertificateIn, RefusesCertificate, CertificateOf, PolygonsIn, RefusesPolygons, PolygonsOf, PolygonsAsked, PatternAsked, RefusesPattern, IsPatternOf, NetworkOf, RefusesNetwork, SourceNetwork, IsPlaced, RefusesPlaces, PlacedOn, PlacedNetwork, IsSearched, SearchedOf, IsClaimed, ClaimedOf, IsRelated, RelatedOf}
+use Rattle.qsr_inputs.specs.Inputs.{BytesWithin, DocumentOf, TableOf, RefusesTable, CalculusOf, builtin_of}
+use Rattle.qsr_inputs.specs.Inputs.{ClassFileOf, RefusesClass, ClassOf, builtin_class, IsGuided, CalculusAndClass}
+use Rattle.qsr_inputs.specs.Inputs.{CertificateIn, RefusesCertificate, CertificateOf, PolygonsIn, RefusesPolygons}
+use Rattle.qsr_inputs.specs.Inputs.{PolygonsOf, PolygonsAsked, PatternAsked, RefusesPattern, IsPatternOf, NetworkOf}
+use Rattle.qsr_inputs.specs.Inputs.{RefusesNetwork, SourceNetwork, IsPlaced, RefusesPlaces, PlacedOn, PlacedNetwork}
+use Rattle.qsr_inputs.specs.Inputs.{IsSearched, SearchedOf, IsClaimed, ClaimedOf, IsRelated, RelatedOf, SomePolygons}
+use Rattle.qsr_inputs.specs.Inputs.{DrawnOf}
 use Rattle.qsr_inputs.specs.Given.{GivenTo, DocumentsGive, SourceGives, InputOf, IsInput}
 use Rattle.qsr_inputs.specs.declared.statuses.Place.{Place}
 use Rattle.qsr_inputs.proofs.Parts.{Then-one}
@@ -277,12 +284,21 @@ pub RelatedOf-one : (documents : Documents) (polygons : List ℕ) (pattern : Opt
 RelatedOf-one documents polygons pattern = Then-one (PolygonsOf documents polygons) _ (PolygonsOf-one documents polygons)
     (λ ps. Then-one (PatternAsked pattern) (IsRelated ps) (PatternAsked-one pattern) (λ wants x y p q. p ∙ sym q))
 
+SomePolygons-one : (polygons : List NamedRing) → IsOne (SomePolygons polygons)
+SomePolygons-one [] x y p q = p ∙ sym q
+SomePolygons-one (r ∷ rs) x y p q = p ∙ sym q
+
+pub DrawnOf-one : (documents : Documents) (polygons : List ℕ) → IsOne (DrawnOf documents polygons)
+DrawnOf-one documents polygons = Then-one (PolygonsOf documents polygons) SomePolygons
+    (PolygonsOf-one documents polygons) SomePolygons-one
+
 pub DocumentsGive-one : (asked : Asked) (documents : Documents) → IsOne (DocumentsGive asked documents)
 DocumentsGive-one (close asked) documents = CalculusOf-one documents asked.calculus
 DocumentsGive-one (solve asked) documents = SearchedOf-one documents asked.calculus asked.class asked.polygons
 DocumentsGive-one (check asked) documents = ClaimedOf-one documents asked.calculus asked.certificate asked.polygons
 DocumentsGive-one (trace asked) documents = ClaimedOf-one documents asked.calculus asked.certificate asked.polygons
 DocumentsGive-one (relate asked) documents = RelatedOf-one documents asked.polygons asked.pattern
+DocumentsGive-one (scene asked) documents = DrawnOf-one documents asked.polygons
 DocumentsGive-one (serve asked) documents = CalculusOf-one documents asked.calculus
 DocumentsGive-one (demo asked) documents = λ x y p q. p ∙ sym q
 
@@ -357,6 +373,7 @@ SourceGives-one (solve asked) bytes given = PlacedNetwork-one bytes given.guided
 SourceGives-one (check asked) bytes given = PlacedNetwork-one bytes given.calculus given.polygons
 SourceGives-one (trace asked) bytes given = PlacedNetwork-one bytes given.calculus given.polygons
 SourceGives-one (relate asked) bytes given = λ x y p q. p ∙ sym q
+SourceGives-one (scene asked) bytes given = λ x y p q. p ∙ sym q
 SourceGives-one (serve asked) bytes c = λ x y p q. p ∙ sym q
 SourceGives-one (demo asked) bytes given = λ x y p q. p ∙ sym q
 

@@ -2,11 +2,13 @@
 use Rattle.std.specs.Prelude.{◌≡◌, ℕ, List, Result, Ok}
 use Rattle.calculus_table.specs.Calculus.{NamedAlgebra}
 use Rattle.network_words.specs.Network.{Network}
+use Rattle.geo_facts.specs.PolygonFile.{NamedRing}
 use Rattle.qsr_outside.specs.Documents.{Documents}
-use Rattle.qsr_words.specs.Asked.{Asked, close, solve, check, trace, relate, serve, demo}
+use Rattle.qsr_words.specs.Asked.{Asked, close, solve, check, trace, relate, scene, serve, demo}
 use Rattle.qsr_inputs.specs.Stops.{Cause}
 use Rattle.qsr_inputs.specs.Parts.{Then}
-use Rattle.qsr_inputs.specs.Inputs.{CalculusOf, Searched, SearchedOf, Claimed, ClaimedOf, Related, RelatedOf, SourceNetwork, PlacedNetwork}
+use Rattle.qsr_inputs.specs.Inputs.{CalculusOf, Searched, SearchedOf, Claimed, ClaimedOf, Related, RelatedOf, DrawnOf}
+use Rattle.qsr_inputs.specs.Inputs.{SourceNetwork, PlacedNetwork}
 
 -- what the documents give it
 abbrev pub GivenTo : Asked → Type 0
@@ -15,6 +17,7 @@ GivenTo (solve asked) = Searched
 GivenTo (check asked) = Claimed
 GivenTo (trace asked) = Claimed
 GivenTo (relate asked) = Related
+GivenTo (scene asked) = List NamedRing
 GivenTo (serve asked) = NamedAlgebra
 GivenTo (demo asked) = Unit {0}
 
@@ -24,6 +27,7 @@ DocumentsGive (solve asked) documents = SearchedOf documents asked.calculus aske
 DocumentsGive (check asked) documents = ClaimedOf documents asked.calculus asked.certificate asked.polygons
 DocumentsGive (trace asked) documents = ClaimedOf documents asked.calculus asked.certificate asked.polygons
 DocumentsGive (relate asked) documents = RelatedOf documents asked.polygons asked.pattern
+DocumentsGive (scene asked) documents = DrawnOf documents asked.polygons
 DocumentsGive (serve asked) documents = CalculusOf documents asked.calculus
 DocumentsGive (demo asked) documents = λ result. result ≡ Ok tt
 
@@ -34,6 +38,7 @@ ReadBy (solve asked) = Network
 ReadBy (check asked) = Network
 ReadBy (trace asked) = Network
 ReadBy (relate asked) = Unit {0}
+ReadBy (scene asked) = Unit {0}
 ReadBy (serve asked) = List ℕ
 ReadBy (demo asked) = Unit {0}
 
@@ -43,6 +48,7 @@ SourceGives (solve asked) bytes given = PlacedNetwork bytes given.guided.calculu
 SourceGives (check asked) bytes given = PlacedNetwork bytes given.calculus given.polygons
 SourceGives (trace asked) bytes given = PlacedNetwork bytes given.calculus given.polygons
 SourceGives (relate asked) bytes given = λ result. result ≡ Ok tt
+SourceGives (scene asked) bytes given = λ result. result ≡ Ok tt
 SourceGives (serve asked) bytes c = λ result. result ≡ Ok bytes
 SourceGives (demo asked) bytes given = λ result. result ≡ Ok tt
 

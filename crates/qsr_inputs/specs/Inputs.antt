@@ -1,6 +1,7 @@
 -- The inputs of the commands, each as a part: the calculus, the class, the certificate and the polygons that words name, a pattern,
 -- and the network of the source.
-use Rattle.std.specs.Prelude.{◌≡◌, ◌⊎◌, ℕ, ◌<◌, ◌≤◌, List, [], length, codes, Option, Some, None, Result, Ok, Err, IsSomeAnd, MatchOption, if◌then◌else◌}
+use Rattle.std.specs.Prelude.{◌≡◌, ◌⊎◌, ℕ, ◌<◌, ◌≤◌, List, [], ◌∷◌, length, codes, Option, Some, None, Result, Ok, Err}
+use Rattle.std.specs.Prelude.{IsSomeAnd, MatchOption, if◌then◌else◌}
 use Rattle.std.specs.Str.{bytes_eq}
 use Rattle.calculus_table.specs.Calculus.{NamedAlgebra, IsNamedCalculus, EachBase, AreDistinct}
 use Rattle.calculus_builtin.specs.Rcc8.{rcc8_calculus}
@@ -31,7 +32,8 @@ use Rattle.geo_facts.specs.declared.fault.FactFault.{FactFault}
 use Rattle.qsr_outside.specs.Documents.{Documents, document}
 use Rattle.qsr_inputs.specs.Stops.{Cause, refuses, is_long}
 use Rattle.qsr_inputs.specs.Parts.{Then}
-use Rattle.qsr_inputs.specs.Numbers.{load_refusal, class_refusal, file_refusal, cert_refusal, geo_refusal, fact_refusal, pattern_refusal}
+use Rattle.qsr_inputs.specs.Numbers.{load_refusal, class_refusal, file_refusal, cert_refusal, geo_refusal}
+use Rattle.qsr_inputs.specs.Numbers.{fact_refusal, pattern_refusal, no_polygon_refusal}
 use Rattle.qsr_lex.specs.declared.TheConstants.{MAX_TEXT}
 use Rattle.geo_facts.specs.declared.TheConstants.{MAX_POLYGONS}
 use Rattle.qsr_inputs.specs.declared.statuses.Place.{Place}
@@ -260,6 +262,14 @@ abbrev pub ClaimedOf : Documents → List ℕ → List ℕ → Option (List ℕ)
 ClaimedOf documents calculus certificate polygons =
     Then (CalculusOf documents calculus) (λ c. Then (CertificateOf documents certificate) (λ x.
     Then (PolygonsAsked documents polygons) (IsClaimed c x)))
+
+-- of `scene`: polygons, one at least
+abbrev pub SomePolygons : List NamedRing → Result (List NamedRing) Cause → Type 0
+SomePolygons [] result = result ≡ Err (refuses no_polygon_refusal.0 no_polygon_refusal.1)
+SomePolygons (p ∷ ps) result = result ≡ Ok (p ∷ ps)
+
+abbrev pub DrawnOf : Documents → List ℕ → Result (List NamedRing) Cause → Type 0
+DrawnOf documents polygons = Then (PolygonsOf documents polygons) SomePolygons
 
 -- of `relate`: polygons, and the pattern that is asked for
 pub record Related : Type 0 where

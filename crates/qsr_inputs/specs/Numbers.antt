@@ -102,6 +102,10 @@ geo_refusal (geo.ManyPolygons line) = Some (42, place_of_one line)
 geo_refusal (geo.Ring line fault) = ring_refusal line fault
 geo_refusal geo.Memory = None
 
+-- of polygons that are to draw a network: there are none
+abbrev pub no_polygon_refusal : ℕ × Place
+no_polygon_refusal = (52, no_place)
+
 -- of polygons whose names are nodes': a polygon
 abbrev pub fact_refusal : FactFault → Option (ℕ × Place)
 fact_refusal (fact.NoNode at) = Some (43, place_of_one at)

@@ -22,7 +22,7 @@ pub use claims::{Claimed, read_claimed};
 pub use classes::GuidedCalculus;
 pub use inputs::{calculus, network};
 pub use placing::placed_network;
-pub use polygons::{Polygons, Related, read_related};
+pub use polygons::{Polygons, Related, read_drawn, read_related};
 pub use searches::{Searched, read_searched};
 pub use statuses::{Place, Status};
 pub use stops::Stop;

@@ -1,18 +1,19 @@
 //! The polygons that words name, and a pattern of matrices; and both, where words ask how polygons relate.
-ghost use Rattle.std.specs.Prelude.{◌≡◌, ◌≤◌, ◌∷◌, [], map, length, option_map, IfOk, IfErr, Ok};
+ghost use Rattle.std.specs.Prelude.{◌≡◌, ◌<◌, ◌≤◌, ◌∷◌, [], map, length, option_map, IfOk, IfErr, Ok};
 ghost use Rattle.std.specs.String.{string_bytes};
 ghost use Rattle.qsr_lex.specs.declared.TheConstants.{MAX_TEXT};
 ghost use Rattle.qsr_inputs.specs.Stops.{HasCause, IsRefusalOrMemory};
-ghost use Rattle.qsr_inputs.specs.Inputs.{PolygonsAsked, PolygonsIn, PolygonsOf, PatternAsked, RelatedOf};
+ghost use Rattle.qsr_inputs.specs.Inputs.{PolygonsAsked, PolygonsIn, PolygonsOf, PatternAsked, RelatedOf, SomePolygons};
+ghost use Rattle.qsr_inputs.specs.Inputs.{DrawnOf};
 ghost use Rattle.qsr_inputs.specs.Told.{named_by_polygons};
 ghost use Rattle.qsr_inputs.specs.Readings.{Fetches};
 
-use crate::stops::{Stop, geo_stop, pattern_stop};
+use crate::stops::{Stop, geo_stop, no_polygon_stop, pattern_stop};
 use crate::texts::document;
 use de9im::Pattern;
 use geo_facts::{Polygon, read_polygons};
 use qsr_outside::Shelf;
-use qsr_words::Relate;
+use qsr_words::{Relate, Scene};
 use std::alloc::Global;
 use std::marker::Model;
 
@@ -63,6 +64,30 @@ pub fn read_related<F: Shelf>(
     let polygons = polygons_of(alloc, shelf, request.polygons.as_str())?;
     let pattern = pattern_asked(&request.pattern)?;
     Ok(Related { polygons, pattern })
+}
+
+/// The polygons that the words name, one at least.
+pub fn read_drawn<F: Shelf>(alloc: Global, shelf: &mut F, request: &Scene) -> Result<Polygons, Stop>
+    ensures fetches { Fetches F.documents F.faults F.given F.absent_openings
+        (string_bytes request.now.polygons ∷ [])
+        (λ documents. DrawnOf documents (string_bytes request.now.polygons)) shelf.old shelf.new result }
+    ensures some { IfOk result (λ polygons. 0 < length polygons) }
+{
+    let found = polygons_of(alloc, shelf, request.polygons.as_str())?;
+    some_polygons(found)
+}
+
+/// The same polygons, where there is one at least.
+fn some_polygons(polygons: Polygons) -> Result<Polygons, Stop>
+    ensures value { IfOk result (λ found. SomePolygons polygons (Ok found)) }
+    ensures some { IfOk result (λ found. 0 < length found) }
+    ensures cause { IfErr result (HasCause (SomePolygons polygons)) }
+    ensures refusal { IfErr result IsRefusalOrMemory }
+{
+    if polygons.list.is_empty() {
+        return Err(no_polygon_stop());
+    }
+    Ok(polygons)
 }
 
 /// The polygons of the document of this name, or none where there is no name.

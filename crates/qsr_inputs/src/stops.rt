@@ -1,7 +1,8 @@
 //! Why a command returns no answer, and the number with which each fault of an input is refused.
-ghost use Rattle.std.specs.Prelude.{◌≡◌};
+ghost use Rattle.std.specs.Prelude.{◌≡◌, Some};
 ghost use Rattle.qsr_inputs.specs.Numbers.{class_refusal, file_refusal, load_refusal, table_refusal};
 ghost use Rattle.qsr_inputs.specs.Numbers.{cert_refusal, fact_refusal, geo_refusal, ring_refusal};
+ghost use Rattle.qsr_inputs.specs.Numbers.{no_polygon_refusal};
 ghost use Rattle.qsr_inputs.specs.Numbers.{missing_place, no_place, place_of_one, place_of_two, place_of_three};
 ghost use Rattle.qsr_inputs.specs.Stops.{stop_of, stop_of_reading};
 
@@ -127,6 +128,16 @@ fn ring_stop(line: u32, fault: RingFault) -> Stop
         }
         RingFault::ManyVertices => refused_at(36, line),
         RingFault::Memory => Stop::Memory,
+    }
+}
+
+/// The stop for a polygon file without a polygon.
+pub(crate) fn no_polygon_stop() -> Stop
+    ensures { result ≡ stop_of (Some no_polygon_refusal) }
+{
+    Stop::Refused {
+        number: 52,
+        place: Place::none(),
     }
 }
 

@@ -3,7 +3,7 @@
 use Rattle.std.proofs.Common.{ℕ, List, [], None, Some, Ok, Err, refl}
 use Rattle.network_words.specs.Network.{Network}
 use Rattle.qsr_outside.specs.Documents.{Documents}
-use Rattle.qsr_words.specs.Asked.{Asked, close, solve, check, trace, relate, serve, demo}
+use Rattle.qsr_words.specs.Asked.{Asked, close, solve, check, trace}
 use Rattle.qsr_inputs.specs.Stops.{Cause, refuses, is_long}
 use Rattle.qsr_inputs.specs.Parts.{Then}
 use Rattle.qsr_inputs.specs.Inputs.{Searched, Claimed}
@@ -25,13 +25,16 @@ module _ (asked : Asked) (documents : Documents) (bytes : List ℕ) (Given : Giv
     given : Given input.given
     read : Read input.given input.read
 
-  input_there : There (DocumentsGive asked documents) Given → ((g : GivenTo asked) → Given g → There (SourceGives asked bytes g) (Read g)) → There (InputOf asked documents bytes) Known
+  input_there : There (DocumentsGive asked documents) Given →
+      ((g : GivenTo asked) → Given g → There (SourceGives asked bytes g) (Read g)) →
+      There (InputOf asked documents bytes) Known
   input_there first more =
       Then-there (DocumentsGive asked documents) (λ g. Then (SourceGives asked bytes g) (IsInput asked g)) Given Known first (λ g given.
       Then-there (SourceGives asked bytes g) (IsInput asked g) (Read g) Known (more g given) (λ r read.
       value (record { given = g; read = r }) refl (record { given = given; read = read })))
 
-  worked_out : (i : Input asked) → InputOf asked documents bytes (Ok i) → Made (Makes asked i.given i.read) → HasOutput (Some asked) documents bytes
+  worked_out : (i : Input asked) → InputOf asked documents bytes (Ok i) → Made (Makes asked i.given i.read) →
+      HasOutput (Some asked) documents bytes
   worked_out i input made = record {
     text = made.text;
     status = made.status;
@@ -42,13 +45,17 @@ module _ (asked : Asked) (documents : Documents) (bytes : List ℕ) (Given : Giv
   stopped_out (refuses number place) h = record { text = refusal_text number place; status = Refused number place; output = (h, refl) }
   stopped_out is_long h = record { text = []; status = TooLong; output = long_output asked documents bytes h }
 
-  some_output : There (InputOf asked documents bytes) Known → ((g : GivenTo asked) (r : ReadBy asked) → Given g → Read g r → Made (Makes asked g r)) → HasOutput (Some asked) documents bytes
+  some_output : There (InputOf asked documents bytes) Known →
+      ((g : GivenTo asked) (r : ReadBy asked) → Given g → Read g r → Made (Makes asked g r)) →
+      HasOutput (Some asked) documents bytes
   some_output (value i input known) make = worked_out i input (make i.given i.read known.given known.read)
   some_output (stops cause h) make = stopped_out cause h
 
   -- what the documents give is there, then what the source gives, and then what the command makes of both
-  command_out : There (DocumentsGive asked documents) Given → ((g : GivenTo asked) → Given g → There (SourceGives asked bytes g) (Read g)) →
-      ((g : GivenTo asked) (r : ReadBy asked) → Given g → Read g r → Made (Makes asked g r)) → HasOutput (Some asked) documents bytes
+  command_out : There (DocumentsGive asked documents) Given →
+      ((g : GivenTo asked) → Given g → There (SourceGives asked bytes g) (Read g)) →
+      ((g : GivenTo asked) (r : ReadBy asked) → Given g → Read g r → Made (Makes asked g r)) →
+      HasOutput (Some asked) documents bytes
   command_out first more make = some_output (input_there first more) make
 
 -- ---- all words
@@ -70,6 +77,4 @@ output_there (Some (trace asked)) documents bytes fits none there =
     command_out (trace asked) documents bytes IsSoundClaim (λ (k : Claimed) (net : Network). IsOver k.calculus net)
     (ClaimedOf-there documents asked.calculus asked.certificate asked.polygons none there)
     (λ k known. PlacedNetwork-there bytes k.calculus k.polygons known.none) (λ k net known over. traces_there k.calculus net known.lawful over k.certificate known.scenario)
-output_there (Some (relate asked)) documents bytes fits none there = absurd none
-output_there (Some (serve asked)) documents bytes fits none there = absurd none
-output_there (Some (demo asked)) documents bytes fits none there = absurd none
+output_there _ documents bytes fits none there = absurd none

@@ -1,7 +1,7 @@
 -- What holds of all outputs.
 use Rattle.std.specs.Prelude.{◌≡◌, ℕ, ⊤, false, List, All, Option, None, Some, IsSomeAnd}
 use Rattle.qsr_outside.specs.Documents.{Documents, document}
-use Rattle.qsr_words.specs.Asked.{Asked, close, solve, check, trace, relate, serve, demo, asked_by}
+use Rattle.qsr_words.specs.Asked.{Asked, close, solve, check, trace, asked_by}
 use Rattle.qsr_words.specs.Requests.{FitsCalculus}
 use Rattle.qsr_inputs.specs.Told.{named_documents, is_served}
 use Rattle.qsr_inputs.specs.declared.statuses.Status.{Status}
@@ -16,16 +16,14 @@ OutputIsOne = (asked : Option Asked) (documents : Documents) (bytes t u : List �
 abbrev pub HasNamedDocuments : Option Asked → Documents → Type 0
 HasNamedDocuments asked documents = All (λ name. IsSomeAnd (document documents name) (λ _. ⊤)) (named_documents asked)
 
--- no polygons are asked for, and no script is answered
+-- no polygons are asked for, and neither a script is answered nor a demonstration made
 abbrev pub HasNoPolygons : Option Asked → Type 0
 HasNoPolygons None = ⊤
 HasNoPolygons (Some (close asked)) = ⊤
 HasNoPolygons (Some (solve asked)) = asked.polygons ≡ None
 HasNoPolygons (Some (check asked)) = asked.polygons ≡ None
 HasNoPolygons (Some (trace asked)) = asked.polygons ≡ None
-HasNoPolygons (Some (relate asked)) = ⊥
-HasNoPolygons (Some (serve asked)) = ⊥
-HasNoPolygons (Some (demo asked)) = ⊥
+HasNoPolygons asked = ⊥
 
 -- a text and a status that are permitted
 pub record HasOutput (asked : Option Asked) (documents : Documents) (bytes : List ℕ) : Type 0 where

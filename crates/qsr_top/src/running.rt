@@ -17,8 +17,8 @@ ghost use Rattle.qsr_commands.specs.Runs.{Runs};
 use calculus_table::Memory;
 use qsr_answers::usage;
 use qsr_commands::{
-    check_answer, close_answer, demo_answer, relate_answer, serve_script, solve_answer,
-    trace_answer, write_answer,
+    check_answer, close_answer, demo_answer, relate_answer, scene_answer, serve_script,
+    solve_answer, trace_answer, write_answer,
 };
 use qsr_inputs::{Status, Stop};
 use qsr_lex::MAX_TEXT;
@@ -121,6 +121,7 @@ fn run_request<R: Threads + Sync, F: Shelf, S: Source, W: Sink, G: Gate + Sync>(
             write_answer(alloc, sink, trace_answer(rt, alloc, check, shelf, source))
         }
         Request::Relate(relate) => write_answer(alloc, sink, relate_answer(alloc, relate, shelf)),
+        Request::Scene(scene) => write_answer(alloc, sink, scene_answer(rt, alloc, scene, shelf)),
         Request::Serve(serve) => serve_script(rt, alloc, serve, shelf, source, sink, gate),
         Request::Demo(demo) => write_answer(alloc, sink, demo_answer(rt, alloc, demo, gate)),
         Request::Usage => write_answer(alloc, sink, usage(alloc).map_err(|_| Stop::Memory)),

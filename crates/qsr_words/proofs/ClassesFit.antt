@@ -4,8 +4,13 @@ use Rattle.std.specs.Prelude.{IfSome, codes}
 use Rattle.std.specs.List.{list_any}
 use Rattle.std.specs.Str.{bytes_eq}
 use Rattle.clap.specs.Words.{App, Row, fault_of, first_of, matches_of}
-use Rattle.qsr_words.specs.Asked.{Asked, asked_by, asked_with, SolveAsked, CheckAsked, close, solve, check, trace, relate, serve, demo, class_asked, class_fits, polygons_asked, polygons_fit, is_rcc8_class, is_strange}
-use Rattle.qsr_words.specs.Asked.{solve_over, solve_with, solve_app, solve_asked, solve_by, check_over, check_with, check_app, check_asked, check_by, close_asked, relate_asked, serve_asked, demo_asked, command_asked, command_by, budget_asked, workers_asked, is_flag_there}
+use Rattle.qsr_words.specs.Asked.{Asked, asked_by, asked_with, SolveAsked, CheckAsked, close, solve, check, trace}
+use Rattle.qsr_words.specs.Asked.{relate, scene, serve, demo, class_asked, class_fits, polygons_asked, polygons_fit}
+use Rattle.qsr_words.specs.Asked.{is_rcc8_class, is_strange}
+use Rattle.qsr_words.specs.Asked.{solve_over, solve_with, solve_app, solve_asked, solve_by, check_over, check_with}
+use Rattle.qsr_words.specs.Asked.{check_app, check_asked, check_by, close_asked, relate_asked, scene_asked}
+use Rattle.qsr_words.specs.Asked.{serve_asked, demo_asked, command_asked, command_by, budget_asked, workers_asked}
+use Rattle.qsr_words.specs.Asked.{is_flag_there}
 use Rattle.qsr_words.specs.Requests.{FitsCalculus}
 
 abbrev FitsSolve : SolveAsked → Type 0
@@ -91,8 +96,10 @@ by_fits name words =
     (fits_either (bytes_eq name (codes "check")) _ _ (fits_of check (check_asked words) (check_known words))
     (fits_either (bytes_eq name (codes "trace")) _ _ (fits_of trace (check_asked words) (check_known words))
     (fits_either (bytes_eq name (codes "relate")) _ _ (fits_any relate (relate_asked words) (λ a. tt))
+    (fits_either (bytes_eq name (codes "scene")) _ _ (fits_any scene (scene_asked words) (λ a. tt))
     (fits_either (bytes_eq name (codes "serve")) _ _ (fits_any serve (serve_asked words) (λ a. tt))
-    (fits_either (bytes_eq name (codes "demo")) (option_map demo (demo_asked words)) None (fits_any demo (demo_asked words) (λ a. tt)) tt))))))
+    (fits_either (bytes_eq name (codes "demo")) (option_map demo (demo_asked words)) None
+    (fits_any demo (demo_asked words) (λ a. tt)) tt)))))))
 
 command_fits : (words : List (List ℕ)) → FitsCalculus (command_asked words)
 command_fits [] = tt

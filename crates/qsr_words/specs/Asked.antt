@@ -231,6 +231,26 @@ relate_by found = relate_with (first_of (codes "polygons") found) (first_of (cod
 abbrev pub relate_asked : List (List ℕ) → Option RelateAsked
 relate_asked = asked_with relate_app relate_by
 
+-- ---- scene
+
+-- to write the network that the polygons of a file draw
+pub record SceneAsked : Type 0 where
+  pub polygons : List ℕ
+
+-- the words of `scene`: its name, and polygons
+abbrev pub scene_app : App
+scene_app = with_rule (new_app (codes "scene")) (word_rule (codes "polygons"))
+
+-- of polygons, where there are some
+abbrev pub scene_with : Option (List ℕ) → Option SceneAsked
+scene_with polygons = option_map (λ f. record { polygons = f }) polygons
+
+abbrev pub scene_by : List Row → Option SceneAsked
+scene_by found = scene_with (first_of (codes "polygons") found)
+
+abbrev pub scene_asked : List (List ℕ) → Option SceneAsked
+scene_asked = asked_with scene_app scene_by
+
 -- ---- serve
 
 -- to answer the sessions of a script, which use one network over so many nodes and the calculus of a word
@@ -287,6 +307,7 @@ pub data Asked : Type 0 where
   check : CheckAsked → Asked
   trace : CheckAsked → Asked
   relate : RelateAsked → Asked
+  scene : SceneAsked → Asked
   serve : ServeAsked → Asked
   demo : DemoAsked → Asked
 
@@ -298,8 +319,9 @@ command_by name words =
     else (if bytes_eq name (codes "check") then option_map check (check_asked words)
     else (if bytes_eq name (codes "trace") then option_map trace (check_asked words)
     else (if bytes_eq name (codes "relate") then option_map relate (relate_asked words)
+    else (if bytes_eq name (codes "scene") then option_map scene (scene_asked words)
     else (if bytes_eq name (codes "serve") then option_map serve (serve_asked words)
-    else (if bytes_eq name (codes "demo") then option_map demo (demo_asked words) else None))))))
+    else (if bytes_eq name (codes "demo") then option_map demo (demo_asked words) else None)))))))
 
 -- what the words after the test of each word ask for, by the first of them
 abbrev pub command_asked : List (List ℕ) → Option Asked

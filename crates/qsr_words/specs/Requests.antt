@@ -1,14 +1,16 @@
 -- Requests as the definitions see them.
 use Rattle.std.specs.Prelude.{◌≡◌, ℕ, ◌≤◌, ⊤, true, Option, Some, None, IfSome, option_map}
 use Rattle.std.specs.String.{string_bytes}
-use Rattle.qsr_words.specs.Asked.{Asked, CloseAsked, SolveAsked, CheckAsked, RelateAsked, ServeAsked, DemoAsked}
-use Rattle.qsr_words.specs.Asked.{close, solve, check, trace, relate, serve, demo, class_fits, polygons_fit}
+use Rattle.qsr_words.specs.Asked.{Asked, CloseAsked, SolveAsked, CheckAsked, RelateAsked, SceneAsked, ServeAsked}
+use Rattle.qsr_words.specs.Asked.{DemoAsked}
+use Rattle.qsr_words.specs.Asked.{close, solve, check, trace, relate, scene, serve, demo, class_fits, polygons_fit}
 use Rattle.qsr_words.specs.declared.TheConstants.{MIN_WORKERS, MAX_WORKERS, MAX_BUDGET}
 use Rattle.qsr_words.specs.declared.TheConstants.{MAX_SEED, MIN_DEMO_NODES, MAX_DEMO_NODES, MIN_SERVED_NODES, MAX_SERVED_NODES}
 use Rattle.qsr_words.specs.declared.close.Close.{Close}
 use Rattle.qsr_words.specs.declared.solve.Solve.{Solve}
 use Rattle.qsr_words.specs.declared.check.Check.{Check}
 use Rattle.qsr_words.specs.declared.relate.Relate.{Relate}
+use Rattle.qsr_words.specs.declared.scene.Scene.{Scene}
 use Rattle.qsr_words.specs.declared.serve.Serve.{Serve}
 use Rattle.qsr_words.specs.declared.demo.Demo.{Demo}
 use Rattle.qsr_words.specs.declared.reading.Request.{Request}
@@ -37,6 +39,9 @@ check_of c = record {
 abbrev pub relate_of : Relate → RelateAsked
 relate_of r = record { polygons = string_bytes r.polygons; pattern = option_map string_bytes r.pattern }
 
+abbrev pub scene_of : Scene → SceneAsked
+scene_of s = record { polygons = string_bytes s.polygons }
+
 abbrev pub serve_of : Serve → ServeAsked
 serve_of s = record { calculus = string_bytes s.calculus; nodes = s.nodes; workers = s.workers }
 
@@ -50,6 +55,7 @@ asked_of (request.Solve s) = Some (solve (solve_of s))
 asked_of (request.Check c) = Some (check (check_of c))
 asked_of (request.Trace c) = Some (trace (check_of c))
 asked_of (request.Relate r) = Some (relate (relate_of r))
+asked_of (request.Scene s) = Some (scene (scene_of s))
 asked_of (request.Serve s) = Some (serve (serve_of s))
 asked_of (request.Demo d) = Some (demo (demo_of d))
 asked_of request.Usage = None
@@ -87,15 +93,11 @@ pub record IsDemo (asked : DemoAsked) : Type 0 where
 
 -- the class that guides a search and the polygons fit the calculus
 abbrev pub FitsCalculus : Option Asked → Type 0
-FitsCalculus None = ⊤
-FitsCalculus (Some (close asked)) = ⊤
 FitsCalculus (Some (solve asked)) =
     (class_fits asked.calculus asked.class ≡ true) × (polygons_fit asked.calculus asked.polygons ≡ true)
 FitsCalculus (Some (check asked)) = polygons_fit asked.calculus asked.polygons ≡ true
 FitsCalculus (Some (trace asked)) = polygons_fit asked.calculus asked.polygons ≡ true
-FitsCalculus (Some (relate asked)) = ⊤
-FitsCalculus (Some (serve asked)) = ⊤
-FitsCalculus (Some (demo asked)) = ⊤
+FitsCalculus asked = ⊤
 
 -- the request is within the limits of its command
 abbrev pub IsWithinLimits : Request → Type 0
@@ -103,7 +105,6 @@ IsWithinLimits (request.Close c) = AreWorkersIfNamed c.workers
 IsWithinLimits (request.Solve s) = IsSearch (solve_of s)
 IsWithinLimits (request.Check c) = IsCheck (check_of c)
 IsWithinLimits (request.Trace c) = IsCheck (check_of c)
-IsWithinLimits (request.Relate r) = ⊤
 IsWithinLimits (request.Serve s) = AreServed (serve_of s)
 IsWithinLimits (request.Demo d) = IsDemo (demo_of d)
-IsWithinLimits request.Usage = ⊤
+IsWithinLimits request = ⊤

@@ -12,6 +12,7 @@ mod command;
 mod demo;
 mod reading;
 mod relate;
+mod scene;
 mod serve;
 mod solve;
 mod values;
@@ -21,6 +22,7 @@ pub use close::Close;
 pub use demo::Demo;
 pub use reading::{Request, read};
 pub use relate::Relate;
+pub use scene::Scene;
 pub use serve::Serve;
 pub use solve::Solve;
 

@@ -9,9 +9,10 @@ use crate::check::Check;
 use crate::close::Close;
 use crate::demo::Demo;
 use crate::relate::Relate;
+use crate::scene::Scene;
 use crate::serve::Serve;
 use crate::solve::Solve;
-use crate::{check, close, demo, relate, serve, solve};
+use crate::{check, close, demo, relate, scene, serve, solve};
 use calculus_table::Memory;
 use std::alloc::Global;
 
@@ -28,6 +29,8 @@ pub enum Request {
     Trace(Check),
     /// To relate each two polygons.
     Relate(Relate),
+    /// To write the network that polygons draw.
+    Scene(Scene),
     /// To answer the sessions of a script.
     Serve(Serve),
     /// To show a search at work.
@@ -62,6 +65,7 @@ fn request_by(alloc: Global, name: &str, words: &[String]) -> Result<Request, Me
         "check" => check::read(alloc, words)?.map(Request::Check),
         "trace" => check::read(alloc, words)?.map(Request::Trace),
         "relate" => relate::read(alloc, words)?.map(Request::Relate),
+        "scene" => scene::read(alloc, words)?.map(Request::Scene),
         "serve" => serve::read(alloc, words)?.map(Request::Serve),
         "demo" => demo::read(alloc, words)?.map(Request::Demo),
         _ => None,

@@ -2,3 +2,4 @@ mod Rows
 mod LookUps
 pub mod Faults
 pub mod FirstFaults
+mod SingleWords

@@ -1,4 +1,4 @@
-//! Polygons: how they are related, and networks over what they state.
+//! Polygons: how they are related, the scenes that they draw, and networks over what they state.
 use crate::runs::{expect_code, ran_over};
 use std::alloc::Global;
 use std::process::Abort;
@@ -50,6 +50,43 @@ fn polygons_are_related(rt: HostRuntime) -> Result<(), Fail> {
         expect_code(&rt, words, &POLYGONS, "", text, code)?;
     }
     Ok(())
+}
+
+/// One polygon.
+const ALONE: &[u8] = b"a POLYGON ((0 0, 10 0, 10 10, 0 10, 0 0))\n";
+
+/// Two polygons of one name, and a line that is none.
+const FAULTY: &[u8] = b"a POLYGON ((0 0, 9 0, 0 9, 0 0))\na POLYGON ((0 0, 9 0, 0 9, 0 0))\na\n";
+
+const DRAWN: [(&str, &[u8]); 4] = [
+    ("nested", NESTED),
+    ("alone", ALONE),
+    ("empty", b""),
+    ("faulty", FAULTY),
+];
+
+const NESTED_SCENE: &str =
+    "nodes 3\nnames ( a b c )\n0 1 ( TPPi )\n0 2 ( NTPPi )\n1 2 ( NTPPi )\n.\n";
+
+/// The words, the text that is written, and the exit code.
+const SCENES: [(&[&str], &str, u8); 4] = [
+    (&["scene", "nested"], NESTED_SCENE, 0),
+    (&["scene", "alone"], "nodes 1\nnames ( a )\n.\n", 0),
+    (&["scene", "empty"], "refused 52\n", 3),
+    (&["scene", "faulty"], "refused 41 2\n", 3),
+];
+
+#[test]
+fn polygons_draw_a_scene(rt: HostRuntime) -> Result<(), Fail> {
+    for (words, text, code) in SCENES {
+        expect_code(&rt, words, &DRAWN, "", text, code)?;
+    }
+    Ok(())
+}
+
+#[test]
+fn a_scene_is_its_own_closure(rt: HostRuntime) -> Result<(), Fail> {
+    expect_code(&rt, &["close", "rcc8"], &[], NESTED_SCENE, NESTED_SCENE, 0)
 }
 
 /// What stands after a polygon's name, and the line that refuses it.

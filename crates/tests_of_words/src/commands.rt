@@ -213,6 +213,21 @@ fn words_of_relate_are_taken(rt: HostRuntime) -> Result<(), Fail> {
     Ok(())
 }
 
+/// The words, and the polygons.
+const SCENES: [(&[&str], &str); 2] = [(&["scene", "p"], "p"), (&["scene", "a=b"], "a=b")];
+
+#[test]
+fn words_of_scene_are_taken(rt: HostRuntime) -> Result<(), Fail> {
+    for (words, polygons) in SCENES {
+        let request = asked(rt.alloc(), words)?;
+        let Request::Scene(scene) = &request else {
+            return Err(Fail::from("no scene"));
+        };
+        assert_same_in(&rt, scene.polygons.as_str(), polygons, words);
+    }
+    Ok(())
+}
+
 /// The words, the calculus, the number of nodes, and the number of workers.
 const SCRIPTS: [(&[&str], &str, u32, u32); 3] = [
     (&["serve", "rcc8", "1"], "rcc8", 1, 4),
@@ -253,7 +268,7 @@ fn words_of_demo_are_taken(rt: HostRuntime) -> Result<(), Fail> {
 }
 
 /// Words that ask for nothing.
-const OTHERS: [&[&str]; 55] = [
+const OTHERS: [&[&str]; 58] = [
     &[],
     &["--workers", "2", "close", "rcc8"],
     &["--help"],
@@ -297,6 +312,9 @@ const OTHERS: [&[&str]; 55] = [
     &["relate"],
     &["relate", "p", "q"],
     &["relate", "p", "--pattern", "-"],
+    &["scene"],
+    &["scene", "p", "q"],
+    &["scene", "p", "--pattern", "t"],
     &["serve", "rcc8"],
     &["serve", "rcc8", "0"],
     &["serve", "rcc8", "257"],

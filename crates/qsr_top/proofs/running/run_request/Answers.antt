@@ -1,8 +1,8 @@
 use Rattle.std.proofs.Common.{ap, refl, sym, rules}
-use Rattle.qsr_words.specs.Asked.{close, solve, check, trace, relate, demo}
-use Rattle.qsr_words.specs.Requests.{asked_of, close_of, solve_of, check_of, relate_of, demo_of}
-use Rattle.qsr_commands.proofs.Answering.{command_runs, usage_runs}
-use Rattle.qsr_commands.proofs.CommandAnswers.{relate_alone, demo_answers}
+use Rattle.qsr_words.specs.Asked.{close, solve, check, trace, relate, scene, demo}
+use Rattle.qsr_words.specs.Requests.{asked_of, close_of, solve_of, check_of, relate_of, scene_of, demo_of}
+use Rattle.qsr_commands.proofs.Answering.{command_runs, alone_runs, usage_runs}
+use Rattle.qsr_commands.proofs.CommandAnswers.{demo_answers}
 use Rattle.qsr_top.proofs.running.run_request.Goals as goal
 
 pub returns-in-Close : goal.returns-in-Close
@@ -31,10 +31,21 @@ returns-in-Trace g c =
 
 pub returns-in-Relate : goal.returns-in-Relate
 returns-in-Relate g c =
-    command_runs g.F.Source.documents g.F.Source.faults g.F.Source.given g.F.Source.absent_openings g.S.Source.left g.S.Source.faults g.S.Source.given g.W.Sink.held g.W.Sink.faults
-    c.args.shelf.now c.relate_answer.new.shelf c.args.source.now c.args.source.now c.args.sink.now c.write_answer-in-Relate.new.sink (relate (relate_of c.in-Relate.relate)) (asked_of c.args.request.now)
-    c.relate_answer.result c.write_answer-in-Relate.result refl (sym (ap asked_of c.in-Relate.is)) (relate_alone g.F.Source.documents g.F.Source.faults g.F.Source.given g.F.Source.absent_openings g.S.Source.left g.S.Source.faults g.S.Source.given
-    (relate_of c.in-Relate.relate) c.args.shelf.now c.relate_answer.new.shelf c.args.source.now c.relate_answer.result c.relate_answer.ensures) c.write_answer-in-Relate.ensures
+    alone_runs g.F.Source.documents g.F.Source.faults g.F.Source.given g.F.Source.absent_openings
+    g.S.Source.left g.S.Source.faults g.S.Source.given g.W.Sink.held g.W.Sink.faults
+    c.args.shelf.now c.relate_answer.new.shelf c.args.source.now c.args.sink.now c.write_answer-in-Relate.new.sink
+    (relate (relate_of c.in-Relate.relate)) (asked_of c.args.request.now) c.relate_answer.result
+    c.write_answer-in-Relate.result refl refl (sym (ap asked_of c.in-Relate.is))
+    c.relate_answer.ensures c.write_answer-in-Relate.ensures
+
+pub returns-in-Scene : goal.returns-in-Scene
+returns-in-Scene g c =
+    alone_runs g.F.Source.documents g.F.Source.faults g.F.Source.given g.F.Source.absent_openings
+    g.S.Source.left g.S.Source.faults g.S.Source.given g.W.Sink.held g.W.Sink.faults
+    c.args.shelf.now c.scene_answer.new.shelf c.args.source.now c.args.sink.now c.write_answer-in-Scene.new.sink
+    (scene (scene_of c.in-Scene.scene)) (asked_of c.args.request.now) c.scene_answer.result
+    c.write_answer-in-Scene.result refl refl (sym (ap asked_of c.in-Scene.is))
+    c.scene_answer.ensures c.write_answer-in-Scene.ensures
 
 pub returns-in-Demo : goal.returns-in-Demo
 returns-in-Demo g c =

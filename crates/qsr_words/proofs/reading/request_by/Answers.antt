@@ -1,12 +1,18 @@
 use Rattle.std.proofs.Common.{◌≡◌, ℕ, List, None, Some, ap, map, Option, refl, rules, subst, sym, ◌∙◌}
 use Rattle.std.specs.Prelude.{IfSome, unwrap_or}
 use Rattle.std.specs.String.{string_bytes}
-use Rattle.qsr_words.specs.Asked.{command_by, close, solve, check, trace, relate, serve, demo, close_asked, solve_asked, check_asked, relate_asked, serve_asked, demo_asked}
-use Rattle.qsr_words.specs.Requests.{IsWithinLimits, asked_of, close_of, solve_of, check_of, relate_of, serve_of, demo_of}
+use Rattle.qsr_words.specs.Asked.{command_by, close, solve, check, trace, relate, scene, serve, demo, close_asked}
+use Rattle.qsr_words.specs.Asked.{solve_asked, check_asked, relate_asked, scene_asked, serve_asked, demo_asked}
+use Rattle.qsr_words.specs.Requests.{IsWithinLimits, asked_of, close_of, solve_of, check_of, relate_of, scene_of}
+use Rattle.qsr_words.specs.Requests.{serve_of, demo_of}
 use Rattle.qsr_words.specs.declared.reading.Request.TheVariants as request
 use Rattle.qsr_words.proofs.CommandWords.{asked_of-made, IsWithinLimits-made}
 use Rattle.qsr_words.proofs.reading.request_by.Goals as goal
-use Rattle.qsr_words.proofs.reading.request_by.Goals.{in-close+in_ok-read-in-close, in-solve+in_ok-read-in-solve, in-check+in_ok-read-in-check, in-trace+in_ok-read-in-trace, in-relate+in_ok-read-in-relate, in-serve+in_ok-read-in-serve, in-demo+in_ok-read-in-demo, in_default}
+use Rattle.qsr_words.proofs.reading.request_by.Goals.{in-close+in_ok-read-in-close, in-solve+in_ok-read-in-solve}
+use Rattle.qsr_words.proofs.reading.request_by.Goals.{in-check+in_ok-read-in-check, in-trace+in_ok-read-in-trace}
+use Rattle.qsr_words.proofs.reading.request_by.Goals.{in-relate+in_ok-read-in-relate, in-scene+in_ok-read-in-scene}
+use Rattle.qsr_words.proofs.reading.request_by.Goals.{in-serve+in_ok-read-in-serve, in-demo+in_ok-read-in-demo}
+use Rattle.qsr_words.proofs.reading.request_by.Goals.{in_default}
 
 pub returns-clause-asked : goal.returns-clause-asked
 returns-clause-asked c =
@@ -34,6 +40,11 @@ returns-clause-asked c =
           unwrapped ∙ ap (λ m. asked_of (unwrap_or m request.Usage)) w.request-is
           ∙ asked_of-made w.in_ok-read-in-relate.field-0 _ request.Relate relate_of relate (relate_asked words) w.map-request-in-relate.ensures.cases (λ x. refl) w.in_ok-read-in-relate.ensures
           ∙ sym (ap (λ n. command_by n words) w.in-relate.is)
+      | in-scene+in_ok-read-in-scene w ↦
+          unwrapped ∙ ap (λ m. asked_of (unwrap_or m request.Usage)) w.request-is
+          ∙ asked_of-made w.in_ok-read-in-scene.field-0 _ request.Scene scene_of scene
+          (scene_asked words) w.map-request-in-scene.ensures.cases (λ x. refl) w.in_ok-read-in-scene.ensures
+          ∙ sym (ap (λ n. command_by n words) w.in-scene.is)
       | in-serve+in_ok-read-in-serve w ↦
           unwrapped ∙ ap (λ m. asked_of (unwrap_or m request.Usage)) w.request-is
           ∙ asked_of-made w.in_ok-read-in-serve.field-0 _ request.Serve serve_of serve (serve_asked words) w.map-request-in-serve.ensures.cases (λ x. refl) w.in_ok-read-in-serve.ensures.asked
@@ -70,6 +81,10 @@ returns-clause-limits c =
       | in-relate+in_ok-read-in-relate w ↦
           subst IsWithinLimits (sym (unwrapped ∙ ap (λ m. unwrap_or m request.Usage) w.request-is))
           (IsWithinLimits-made w.in_ok-read-in-relate.field-0 _ request.Relate w.map-request-in-relate.ensures.cases (each w.in_ok-read-in-relate.field-0 (λ x. IsWithinLimits (request.Relate x)) (λ x. tt)))
+      | in-scene+in_ok-read-in-scene w ↦
+          subst IsWithinLimits (sym (unwrapped ∙ ap (λ m. unwrap_or m request.Usage) w.request-is))
+          (IsWithinLimits-made w.in_ok-read-in-scene.field-0 _ request.Scene w.map-request-in-scene.ensures.cases
+          (each w.in_ok-read-in-scene.field-0 (λ x. IsWithinLimits (request.Scene x)) (λ x. tt)))
       | in-serve+in_ok-read-in-serve w ↦
           subst IsWithinLimits (sym (unwrapped ∙ ap (λ m. unwrap_or m request.Usage) w.request-is))
           (IsWithinLimits-made w.in_ok-read-in-serve.field-0 _ request.Serve w.map-request-in-serve.ensures.cases w.in_ok-read-in-serve.ensures.limits)

@@ -1,0 +1,12 @@
+pub mod Regions
+pub mod Rules
+pub mod Views
+pub mod Triples
+pub mod Places
+pub mod Drawings
+pub mod Pieces
+pub mod Rectangles
+pub mod There
+pub mod Demos
+pub mod PlacedFacts
+pub mod DrawnNetworks
