@@ -1,0 +1,9 @@
+pub mod Steps
+pub mod Orders
+pub mod Composed
+pub mod Ranked
+pub mod Comparisons
+pub mod Counted
+pub mod Members
+pub mod Realised
+pub mod Uniqueness

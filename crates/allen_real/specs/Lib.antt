@@ -1,0 +1,4 @@
+pub mod EndPoints
+pub mod Realisation
+pub mod Classes
+pub mod Laws
