@@ -1,13 +1,14 @@
--- The closure of a network by what propagation leaves.
+-- The closure of a network by what propagation leaves, and the start from a closed network.
 use Rattle.std.proofs.Common.{◌≡◌, ℕ, ◌<◌, List, length, sym, ◌∙◌, ap, subst, arith, inl, inr}
-use Rattle.std.specs.Prelude.{slice_index}
+use Rattle.std.specs.Prelude.{slice_index, bit_and}
 use Rattle.std.proofs.lemmas.Bool.{cases_lt}
 use Rattle.std.proofs.lemmas.List.{get_or_past}
 use Rattle.calculus_table.specs.Rel.{IsWithin}
 use Rattle.calculus_table.specs.Algebra.{Algebra}
 use Rattle.calculus_table.specs.Composition.{composition, converse}
 use Rattle.calculus_table.specs.Calculus.{IsCalculus}
-use Rattle.calculus_table.proofs.Sets.{IsWithin-empty, empty-within}
+use Rattle.calculus_table.proofs.Sets.{IsWithin-empty, empty-within, IsWithin-refl, IsWithin-antisym, IsWithin-meet}
+use Rattle.calculus_table.proofs.Sets.{IsWithin-meet_r}
 use Rattle.network_words.specs.Edge.{edge_count, edge_at, IsProperPair, IsProperTriple, EdgeOf}
 use Rattle.network_words.specs.Network.{IsNetwork, Refines, relation_between}
 use Rattle.network_words.specs.Closure.{IsClosed, IsClosure}
@@ -16,8 +17,35 @@ use Rattle.network_words.proofs.Networks.{relation_between-forward, relation_bet
 use Rattle.network_words.proofs.Pairs.{pair-ordered, pair-first, pair-second, pair-outer}
 use Rattle.network_words.proofs.Refinements.{IsNetwork-refines}
 use Rattle.network_words.proofs.Scenarios.{converse-empty, relation_between-empty, closed-empty}
-use Rattle.edge_propagation.specs.Worklist.{Worklist}
-use Rattle.edge_propagation.specs.Propagation.{IsInStep, IsInside, IsRefinement, HasEmpty, AreClosed}
+use Rattle.edge_propagation.specs.Worklist.{Worklist, set_of}
+use Rattle.edge_propagation.specs.declared.span.Span.{Span}
+use Rattle.edge_propagation.specs.Propagation.{IsInStep, IsInside, IsRefinement, HasEmpty, AreClosed, IsSettled, IsMet}
+use Rattle.edge_propagation.specs.Propagation.{AreRowsMet}
+use Rattle.edge_propagation.proofs.Loads.{IsInStep-stored}
+
+-- ---- from a closed network
+
+-- each triple of a closed network is settled, whatever is queued
+pub IsSettled-closed : (m : Algebra) (rows : Span) (work : Worklist) → AreClosed m work → IsSettled m rows work
+IsSettled-closed m rows work closed = λ i j k t _ _ _. closed i j k t
+
+-- the sets of a network that lies within another one, met with those of the other
+pub IsInStep-met : (m : Algebra) (n : ℕ) (larger words : List ℕ) (old new : Worklist) → IsInStep m n larger old →
+    Refines words larger → IsMet m old new → AreRowsMet words old new old.nodes → IsInStep m n words new
+IsInStep-met m n larger words old new s w met rows =
+    IsInStep-stored m n words new (met.nodes ∙ s.nodes) met.sets (λ i j b o l.
+    let at = edge_at n i j in
+    let set : set_of old i j ≡ slice_index larger at =
+    s.sets i j (pair-ordered n i j o l) ∙ relation_between-forward m n larger i j o in
+    let less : set_of new i j ≡ bit_and (set_of old i j) (slice_index words at) =
+    subst (λ k. set_of new i j ≡ bit_and (set_of old i j) (slice_index words (edge_at k i j))) s.nodes
+    (rows.each i j (subst (λ k. i < k) (sym s.nodes) b) o (subst (λ k. j < k) (sym s.nodes) l)) in
+    sym (rw (set) at less ∙ within-met (slice_index larger at) (slice_index words at) (w.each at)))
+  where
+    within-met : (a b : ℕ) → IsWithin b a → bit_and a b ≡ b
+    within-met a b h = IsWithin-antisym (bit_and a b) b (IsWithin-meet_r a b) (IsWithin-meet b a b h (IsWithin-refl b))
+
+-- ---- by what propagation leaves
 
 -- a fact of each word from one of each pair
 by_edge : (P : ℕ → ℕ → Type 0) (n : ℕ) (xs ys : List ℕ) → length xs ≡ edge_count n → ((y : ℕ) → P 0 y) →

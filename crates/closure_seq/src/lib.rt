@@ -1,6 +1,7 @@
 //! Algebraic closure of networks on one thread.
 //!
-//! - [`close`] and [`close_with`] turn a network into its closure.
+//! - [`close`] and [`close_with`] turn a network into its closure; [`close_within`] does so from a closed network that
+//!   it lies within.
 //! - [`ClosedPath`] is a path of closed networks for a search: it narrows an edge and closes again, and takes that
 //!   back.
 //!
@@ -19,7 +20,7 @@ mod narrowing;
 mod path;
 mod work;
 
-pub use closing::{close, close_with};
+pub use closing::{close, close_with, close_within};
 pub use levels::Change;
 pub use path::ClosedPath;
 pub use work::Work;

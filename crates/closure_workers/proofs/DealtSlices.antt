@@ -1,13 +1,13 @@
 -- Slices that are dealt out: none of them is lost on the way from desks to workers and back.
-use Rattle.std.proofs.Common.{◌≡◌, ℕ, zero, suc, ◌+◌, ◌<◌, ◌≤◌, ◌⊎◌, List, [], ◌∷◌, ◌++◌, length, get_or, set, refl, sym, ap, ◌∙◌, subst, arith, inl, inr}
-use Rattle.std.specs.List.{All, Contains}
+use Rattle.std.proofs.Common.{◌≡◌, ℕ, zero, suc, ◌<◌, ◌⊎◌, List, [], ◌∷◌, ◌++◌, length, get_or, set, refl, sym, ap, ◌∙◌, subst, arith, inl, inr}
+use Rattle.std.specs.List.{Contains}
 use Rattle.std.proofs.lemmas.Bool.{cases_lt}
 use Rattle.std.proofs.lemmas.List.{map_push}
 use Rattle.std.proofs.lemmas.List.Elements.{Contains-append_left, Contains-append_right, Contains-append_cases}
 use Rattle.closure_workers.specs.declared.slices.Slice.{Slice}
 use Rattle.closure_workers.specs.declared.worker.Desk.{Desk}
 use Rattle.closure_workers.specs.declared.worker.Worker.{Worker}
-use Rattle.closure_workers.specs.Workers.{IsDealt, AreDealt, slices_of, slices_at}
+use Rattle.closure_workers.specs.Workers.{AreDealt, slices_of, slices_at}
 
 -- ---- one slice more
 

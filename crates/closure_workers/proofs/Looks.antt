@@ -1,5 +1,5 @@
 -- What passes have seen after looking at some edges.
-use Rattle.std.proofs.Common.{◌≡◌, ◌≢◌, ◌↔◌, ℕ, ◌+◌, ◌<◌, Bool, false, ◌||◌, List, length, refl, sym, ◌∙◌, ap, subst, arith, inl, inr}
+use Rattle.std.proofs.Common.{◌≡◌, ◌≢◌, ◌↔◌, ℕ, ◌+◌, ◌<◌, Bool, false, ◌||◌, List, refl, sym, ◌∙◌, ap, subst, arith, inl, inr}
 use Rattle.std.specs.Prelude.{IsTrue, slice_index, slice_set, bit_and}
 use Rattle.std.proofs.lemmas.Bool.{cases_eq, or_cases, or_parts, false≢true}
 use Rattle.std.proofs.lemmas.List.{length-set}
@@ -7,7 +7,7 @@ use Rattle.std.proofs.lemmas.Grind.{same_number_lists}
 use Rattle.calculus_table.specs.Algebra.{Algebra}
 use Rattle.calculus_table.specs.Composition.{composition}
 use Rattle.network_words.specs.Edge.{edge_at, edge_between}
-use Rattle.network_words.specs.Network.{Refines, oriented}
+use Rattle.network_words.specs.Network.{oriented}
 use Rattle.network_words.proofs.Edges.{edge_between-forward}
 use Rattle.network_words.proofs.Networks.{relation_between-forward, set-cases}
 use Rattle.network_words.proofs.Refinements.{sum-refines, sum-smaller}

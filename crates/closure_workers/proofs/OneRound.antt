@@ -13,7 +13,7 @@ use Rattle.calculus_table.specs.Composition.{composition, converse, full_of}
 use Rattle.calculus_table.proofs.Sets.{IsWithin-empty, empty-within}
 use Rattle.network_words.specs.Edge.{edge_count, edge_at}
 use Rattle.network_words.specs.Network.{IsNetwork, Refines, relation_between}
-use Rattle.network_words.specs.Closure.{IsClosed, IsRangeClosed, IsClosure}
+use Rattle.network_words.specs.Closure.{IsClosed, IsClosure}
 use Rattle.network_words.proofs.Edges.{edge_at-lt}
 use Rattle.network_words.proofs.Networks.{Refines-refl, Refines-antisym, Refines-trans, relation_between-forward, relation_between-backward}
 use Rattle.network_words.proofs.Refinements.{sum-smaller, IsClosed-range, IsNetwork-refines}
@@ -303,6 +303,21 @@ IsClosureWithin-closed o a words c closed = record {
   within_facts = c.facts;
   greatest = λ other net k w f. c.kept other net k w f;
 }
+
+-- what a table was closed with may be closed further
+pub IsClosureWithin-closure : (o : Opening) (a : ActorState) (words closure : List ℕ) → AreClosedWords o a words →
+    IsClosure (algebra_of o) o.nodes words closure → IsClosureWithin (algebra_of o) o.nodes o.words a.mine closure
+IsClosureWithin-closure o a words closure c h =
+    let m = algebra_of o in
+    let n = o.nodes in
+    record {
+      network = IsNetwork-refines m n closure words c.network h.length_is h.within;
+      closed = h.closed;
+      within = Refines-trans closure words o.words h.within c.opening;
+      within_facts = facts-mono m n closure words a.mine h.within c.facts;
+      greatest = λ other net k w f.
+          h.greatest other (net.length_is ∙ sym c.network.length_is) k (c.kept other net k w f);
+    }
 
 -- where a set is empty, all sets may be made empty
 pub IsClosureWithin-empty : (o : Opening) (a : ActorState) (words empty : List ℕ) → IsCalculus (algebra_of o) → AreClosedWords o a words → HasClash o.nodes words →

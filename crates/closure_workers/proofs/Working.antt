@@ -1,9 +1,9 @@
 -- Workers who go on, step after step.
-use Rattle.std.proofs.Common.{◌≡◌, ℕ, List, length, refl, sym, ◌∙◌, ap, subst}
-use Rattle.edge_table.specs.Opening.{OpenState, PassState, IsPassOf, algebra_of}
+use Rattle.std.proofs.Common.{◌≡◌, length, refl, sym, ◌∙◌, ap, subst}
+use Rattle.edge_table.specs.Opening.{OpenState, PassState, algebra_of}
 use Rattle.edge_table.specs.Passes.{GoesOn}
 use Rattle.edge_table.proofs.Passes.{GoesOn-refl, GoesOn-trans}
-use Rattle.slice_copy.specs.Copies.{Slice, CopyState, IsOpenCopy, TakesOver}
+use Rattle.slice_copy.specs.Copies.{Slice, IsOpenCopy}
 use Rattle.closure_workers.specs.declared.worker.Desk.{Desk}
 use Rattle.closure_workers.specs.declared.worker.Worker.{Worker}
 use Rattle.closure_workers.specs.declared.slices.Slice.{Slice as Edges}

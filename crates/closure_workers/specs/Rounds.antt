@@ -1,5 +1,5 @@
 -- Rounds of workers on one table, and what comes of them.
-use Rattle.std.specs.Prelude.{◌≡◌, ℕ, ◌+◌, ◌*◌, ◌<◌, ◌≤◌, ◌⊎◌, List, length, Option, Some, None, IsSome}
+use Rattle.std.specs.Prelude.{◌≡◌, ℕ, ◌+◌, ◌*◌, ◌<◌, ◌≤◌, ◌⊎◌, List, length, Option, Some, None}
 use Rattle.std.specs.List.{All}
 use Rattle.calculus_table.specs.Algebra.{Algebra}
 use Rattle.network_words.specs.declared.fact.Fact.{Fact}

@@ -2,8 +2,7 @@
 use Rattle.std.specs.Prelude.{◌≡◌, ℕ, ◌<◌, ◌≤◌, ◌⊎◌, Bool, true, false, List, length, slice_index, sum}
 use Rattle.calculus_table.specs.Algebra.{Algebra}
 use Rattle.network_words.specs.Edge.{edge_at}
-use Rattle.network_words.specs.Network.{IsNetwork}
-use Rattle.network_words.specs.Closure.{IsPairClosed, IsRangeClosed, IsClosed}
+use Rattle.network_words.specs.Closure.{IsPairClosed, IsRangeClosed}
 use Rattle.edge_table.specs.Opening.{OpenState, PassState, IsPassOf}
 use Rattle.edge_table.specs.Passes.{GoesOn}
 use Rattle.closure_workers.specs.declared.slices.Slice.{Slice}
@@ -19,13 +18,6 @@ pub record IsLooking (table : OpenState) (now : PassState) (words : List ℕ) : 
 pub record LooksOn (table : OpenState) (old new : PassState) (words : List ℕ) : Type 0 where
   pub looking : IsLooking table new words
   pub goes_on : GoesOn old new
-
--- ---- networks
-
--- a network of n nodes that is closed
-pub record IsClosedNetwork (m : Algebra) (n : ℕ) (words : List ℕ) : Type 0 where
-  pub network : IsNetwork m n words
-  pub closed : IsClosed m n words
 
 -- ---- the slice
 

@@ -1,19 +1,19 @@
 -- Workers: each has a part of a pass, a slice of the edges, room for the words that it sees, and a copy of the sets.
 use Rattle.std.specs.Prelude.{◌≡◌, ℕ, ◌+◌, ◌<◌, ◌≤◌, ◌⊎◌, [], true, List, length, map, slice_index_or}
-use Rattle.std.specs.List.{All, Contains}
+use Rattle.std.specs.List.{Contains}
 use Rattle.calculus_table.specs.Algebra.{Algebra}
 use Rattle.network_words.specs.Edge.{edge_count}
 use Rattle.network_words.specs.Network.{IsNetwork, Refines}
 use Rattle.network_words.specs.Closure.{IsRangeClosed}
 use Rattle.narrow_core.specs.Actor.{fresh}
-use Rattle.edge_table.specs.Opening.{OpenState, PassState, IsPassOf, algebra_of}
+use Rattle.edge_table.specs.Opening.{OpenState, IsPassOf, algebra_of}
 use Rattle.edge_table.specs.Passes.{GoesOn}
 use Rattle.slice_copy.specs.Copies.{CopyState, IsOpenCopy, IsSettledCopy}
 use Rattle.closure_workers.specs.declared.slices.Slice.{Slice}
 use Rattle.closure_workers.specs.declared.worker.Desk.{Desk}
 use Rattle.closure_workers.specs.declared.worker.Worker.{Worker}
 use Rattle.closure_workers.specs.declared.worker.Turn.{Turn}
-use Rattle.closure_workers.specs.declared.worker.Turn.TheVariants.{Closed, Clash, More, Unknown}
+use Rattle.closure_workers.specs.declared.worker.Turn.TheVariants.{Closed, Clash, More}
 use Rattle.closure_workers.specs.Slices.{HasClash, IsSliceClosed, IsLooking}
 
 -- ---- desks

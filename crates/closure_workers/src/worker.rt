@@ -16,7 +16,8 @@ ghost use Rattle.network_words.specs.declared.TheConstants.{MAX_NODES};
 ghost use Rattle.network_words.specs.Edge.{edge_count, edge_at};
 ghost use Rattle.edge_table.specs.Opening.{algebra_of};
 ghost use Rattle.slice_copy.specs.Copies.{IsSettledCopy, IsSweptCopy, TakesOver};
-ghost use Rattle.closure_workers.specs.Slices.{HasClash, IsSliceClosed, IsLooking, LooksOn, IsClosedNetwork};
+ghost use Rattle.closure_seq.specs.Paths.{IsClosedNetwork};
+ghost use Rattle.closure_workers.specs.Slices.{HasClash, IsSliceClosed, IsLooking, LooksOn};
 ghost use Rattle.closure_workers.specs.Workers.{IsWorker, IsReadyToWork, IsAtWork, WorksOn, IsKept, IsDesk, HasWorked, ComesTo};
 
 use crate::news::{Heard, News};

@@ -1,16 +1,20 @@
 -- Lists of sessions: what they ask for, dealt out, run and gathered again.
-use Rattle.std.proofs.Common.{◌≡◌, ℕ, zero, suc, ◌+◌, ◌<◌, List, [], ◌∷◌, ◌++◌, length, take, drop, get_or, set, refl, sym, ap, ◌∙◌, subst, arith, append_assoc, length-append, add-one, drop-cons, Vec, Global}
+use Rattle.std.proofs.Common.{◌≡◌, ℕ, zero, suc, ◌<◌, List, [], ◌∷◌, ◌++◌, length, get_or, refl, sym, ap, ◌∙◌, subst, arith, append_assoc, length-append, Vec, Global}
 use Rattle.std.specs.List.{All}
-use Rattle.std.proofs.lemmas.List.{append-nil, map_push, map-append, take_more_set}
-use Rattle.std.proofs.lemmas.List.Elements.{All-push}
+use Rattle.std.proofs.lemmas.List.{append-nil, map_push, map-append}
+use Rattle.std.proofs.lemmas.List.Elements.{All-weaker}
 use Rattle.calculus_table.specs.Algebra.{Algebra}
 use Rattle.network_words.specs.declared.fact.Fact.{Fact}
-use Rattle.network_words.specs.Network.{Refines}
+use Rattle.network_words.specs.Network.{Network, Refines}
 use Rattle.network_words.proofs.Networks.{Refines-trans}
+use Rattle.edge_table.specs.Opening.{OpenState}
+use Rattle.closure_workers.specs.Rounds.{IsClosureWithin}
 use Rattle.session_scripts.specs.declared.batch.What.{What}
+use Rattle.session_replies.specs.Replies.{AreShown}
 use Rattle.session_phase.specs.declared.steps.Step.{Step}
 use Rattle.session_phase.specs.declared.sessions.Session.{Session}
 use Rattle.session_phase.specs.Phase.{asked_by, steps_of, asked_of, facts_of_session, facts_asked, facts_stated, asked_of_sessions, AreShownAbove}
+use Rattle.session_phase.specs.Phase.{shown_by, HaveRun, HaveNarrowed}
 
 -- ---- what sessions ask for
 
@@ -75,3 +79,27 @@ asked_of-kept lines left session old items =
     let asked : List (ℕ × What) = asked_by session.steps.items in
     ap (λ (xs : Asked). xs ++ asked_of_sessions left) (map-append asked_by lines (session.steps.items ∷ [])) ∙ append_assoc (asked_of lines) (asked ∷ []) (asked_of_sessions left)
     ∙ ap (λ (xs : Asked). asked_of lines ++ xs) (sym (asked_of_sessions-push left session) ∙ ap asked_of_sessions (sym items))
+
+-- ---- the whole
+
+-- as many sessions have run as there are
+pub HaveRun-count : (m : Algebra) (table : OpenState) (before after : List Session) → HaveRun m table before after →
+    length after ≡ length before
+HaveRun-count m table before after h =
+    sym (length-asked_of_sessions after) ∙ ap length h.asked ∙ length-asked_of_sessions before
+
+-- sessions gathered, and the closure of the opening with what they stated
+pub HaveNarrowed-closed :
+    (m : Algebra) (old new : Network) (lines done : List (List Step)) (facts : List Fact) (seen : List ℕ) →
+    new ≡ record old { words = new.words } → facts ≡ facts_stated done → asked_of done ≡ asked_of lines →
+    IsClosureWithin m old.nodes old.words facts new.words → Refines new.words seen →
+    All (AreShownAbove m old.nodes old.words seen) done → HaveNarrowed m old new lines done
+HaveNarrowed-closed m old new lines done facts seen rest stated asked closure below shown = record {
+  rest = rest;
+  closure = subst (λ (fs : List Fact). IsClosureWithin m old.nodes old.words fs new.words)
+      (stated ∙ ap facts_asked asked) closure;
+  asked = asked;
+  shown = All-weaker (AreShownAbove m old.nodes old.words seen)
+      (λ (steps : List Step). AreShown m old.nodes new.words old.words (shown_by steps))
+      (λ steps s. s new.words below) done shown;
+}

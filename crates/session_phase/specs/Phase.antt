@@ -1,11 +1,11 @@
 -- What sessions state and see while they narrow the words of one table at once with workers, and the closure that comes of it.
-use Rattle.std.specs.Prelude.{◌≡◌, ℕ, ◌<◌, List, [], ◌∷◌, ◌++◌, length, map, Vec}
+use Rattle.std.specs.Prelude.{◌≡◌, ℕ, ◌<◌, ◌≤◌, List, [], ◌∷◌, ◌++◌, length, map, Vec}
 use Rattle.std.specs.Global.{Global}
 use Rattle.std.specs.List.{All}
 use Rattle.calculus_table.specs.Algebra.{Algebra}
 use Rattle.calculus_table.specs.Composition.{full_of}
 use Rattle.network_words.specs.declared.fact.Fact.{Fact}
-use Rattle.network_words.specs.Network.{IsNetwork, Refines}
+use Rattle.network_words.specs.Network.{Network, IsNetwork, Refines}
 use Rattle.narrow_core.specs.Actor.{ActorState, fresh}
 use Rattle.edge_table.specs.Opening.{OpenState, IsPassOf, algebra_of}
 use Rattle.session_scripts.specs.declared.batch.What.{What}
@@ -13,8 +13,10 @@ use Rattle.session_scripts.specs.declared.batch.What.TheVariants.{Assert, Peek, 
 use Rattle.session_scripts.specs.Batches.{IsAsked}
 use Rattle.session_phase.specs.declared.steps.Step.{Step}
 use Rattle.session_phase.specs.declared.sessions.Session.{Session}
+use Rattle.closure_seq.specs.Paths.{IsClosedNetwork}
 use Rattle.closure_workers.specs.declared.worker.Worker.{Worker}
 use Rattle.closure_workers.specs.Workers.{IsWorker}
+use Rattle.closure_workers.specs.Rounds.{IsClosureWithin}
 use Rattle.session_replies.specs.Replies.{IsShown, told_after, AreShown}
 
 -- ---- steps of sessions
@@ -127,3 +129,20 @@ pub record CanWork (m : Algebra) (table : OpenState) (before : List Worker) : Ty
   pub calculus : m ≡ algebra_of table.opening
   pub some : 0 < length before
   pub workers : All (IsWorker table) before
+
+-- ---- the whole
+
+-- sessions that may narrow a network, beside the words of a closed one: their lines ask what the network has
+pub record CanNarrow (m : Algebra) (net : Network) (closed : List ℕ) (lines : List (List Step)) : Type 0 where
+  pub network : IsNetwork m net.nodes net.words
+  pub closed_network : IsClosedNetwork m net.nodes closed
+  pub asked : All (All (IsStepFor (full_of m) net.nodes)) lines
+  pub few : length lines ≤ 64
+
+-- the network's sets became those of the closure with the facts that the sessions state, and the rest of it stayed; the
+-- lines ask what they asked, and the sets that they show lie between this closure and what each session was told
+pub record HaveNarrowed (m : Algebra) (old new : Network) (lines done : List (List Step)) : Type 0 where
+  pub rest : new ≡ record old { words = new.words }
+  pub closure : IsClosureWithin m old.nodes old.words (facts_stated lines) new.words
+  pub asked : asked_of done ≡ asked_of lines
+  pub shown : All (λ (steps : List Step). AreShown m old.nodes new.words old.words (shown_by steps)) done

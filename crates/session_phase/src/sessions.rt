@@ -169,13 +169,14 @@ pub(crate) fn run_sessions<R: Threads + Sync, C: Compose + Sync, G: Gate + Sync>
     gate: &G,
     news: &News,
     threads: usize,
-    sessions: &mut [Session],
-)
+    mut sessions: Vec<Session>,
+) -> Vec<Session>
     requires threads { 0 < threads }
-    requires can { CanRun (C.algebra c.now) table.now sessions.old }
-    ensures { HaveRun (C.algebra c.now) table.now sessions.old sessions.new }
+    requires can { CanRun (C.algebra c.now) table.now sessions.items }
+    ensures { HaveRun (C.algebra c.now) table.now sessions.items result.items }
 {
     if !sessions.is_empty() {
-        run_each(rt, table, c, gate, news, threads, sessions);
+        run_each(rt, table, c, gate, news, threads, sessions.as_mut_slice());
     }
+    sessions
 }

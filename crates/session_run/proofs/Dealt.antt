@@ -96,9 +96,11 @@ AreDealt-passed sessions lines i l asked b e past d = record {
   each = λ k h. d.each k h ∙ sym (lines_by-other k i lines l b e (λ s. absurd (omega arith)));
 }
 
+pub length-steps_of : (lists : List (Vec Step Global)) → length (steps_of lists) ≡ length lists
+length-steps_of lists = length-map lists (λ (steps : Vec Step Global). steps.items)
+
 pub length-asked_of : (lists : List (Vec Step Global)) → length (asked_of (steps_of lists)) ≡ length lists
-length-asked_of lists =
-    length-map (steps_of lists) asked_by ∙ length-map lists (λ (steps : Vec Step Global). steps.items)
+length-asked_of lists = length-map (steps_of lists) asked_by ∙ length-steps_of lists
 
 -- a session gets one step more
 pub asked_of-more : (lists : List (Vec Step Global)) (k i : ℕ) (what : What) (old new : Vec Step Global) → k < length lists → old ≡ get_or lists k old →

@@ -10,7 +10,7 @@ use crate::nets::{
 };
 use calculus_builtin::{allen, point, rcc8};
 use calculus_table::{Calculus, Compose, Memory, Rel};
-use closure_seq::{Change, ClosedPath, Work, close, close_with};
+use closure_seq::{Change, ClosedPath, Work, close, close_with, close_within};
 use compose_fast::Fast;
 use network_words::Net;
 use slice_copy::{Note, SliceCopy};
@@ -53,6 +53,38 @@ fn closes_small_networks_as_published(rt: HostRuntime) -> Result<(), Fail> {
         assert_words(&rt, net.words(), given);
         close_in_room(&rt, rt.alloc(), &c, &mut net)?;
         assert_words(&rt, net.words(), closed);
+    }
+    Ok(())
+}
+
+/// Closes the network from the closure of another one.
+fn close_from(
+    rt: &impl Abort,
+    alloc: Global,
+    c: &Calculus,
+    net: &mut Net,
+    mut other: Net,
+) -> Result<(), Memory> {
+    assert!(rt; is_network(net, c));
+    assert!(rt; is_network(&other, c));
+    assert!(rt; other.nodes() == net.nodes());
+    let mut work = Work::new(alloc, net.nodes())?;
+    close_with(&mut other, c, &mut work);
+    close_within(net, other.words(), c, &mut work);
+    Ok(())
+}
+
+#[test]
+fn closing_goes_on_from_closed_networks(rt: HostRuntime) -> Result<(), Fail> {
+    let c = rcc8(rt.alloc())?;
+    for (nodes, given, closed) in CLOSURES {
+        // with every relation, and the closure itself, which the network needn't lie within
+        let full = Net::new(rt.alloc(), nodes, c.full())?;
+        for other in [full, net_of(rt.alloc(), c.full(), nodes, closed)?] {
+            let mut net = net_of(rt.alloc(), c.full(), nodes, given)?;
+            close_from(&rt, rt.alloc(), &c, &mut net, other)?;
+            assert_words(&rt, net.words(), closed);
+        }
     }
     Ok(())
 }

@@ -1,4 +1,4 @@
-use Rattle.std.proofs.Common.{◌≡◌, ℕ, ◌+◌, ◌-◌, ◌<◌, ◌++◌, ◌∷◌, [], List, length, length-append, ap, sym, subst, ◌∙◌, arith}
+use Rattle.std.proofs.Common.{◌≡◌, ◌+◌, ◌++◌, ◌∷◌, [], length, length-append, ap, sym, subst, ◌∙◌, arith}
 use Rattle.std.specs.List.{All}
 use Rattle.std.specs.Prelude.{Some}
 use Rattle.std.proofs.lemmas.Grind.{common_steps}
@@ -6,7 +6,6 @@ use Rattle.std.proofs.lemmas.List.{length-map}
 use Rattle.std.proofs.lemmas.List.Elements.{All-push, All-pop}
 use Rattle.narrow_core.specs.Actor.{ActorState, fresh, giving}
 use Rattle.edge_table.specs.Opening.{PassState, algebra_of}
-use Rattle.closure_workers.specs.declared.slices.Slice.{Slice}
 use Rattle.closure_workers.specs.declared.worker.Desk.{Desk}
 use Rattle.closure_workers.specs.declared.worker.Worker.{Worker}
 use Rattle.closure_workers.specs.Workers.{IsDesk, IsFreshWorker, slices_of, slices_at}

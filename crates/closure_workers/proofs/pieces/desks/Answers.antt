@@ -1,9 +1,7 @@
-use Rattle.std.proofs.Common.{◌≡◌, ℕ, ◌+◌, ◌-◌, ◌<◌, ◌≤◌, ◌++◌, ◌∷◌, [], List, length, length-append, ap, sym, subst, ◌∙◌, arith, false}
+use Rattle.std.proofs.Common.{◌≡◌, ◌<◌, ◌++◌, ◌∷◌, [], List, length, length-append, ap, sym, subst, ◌∙◌, arith, false}
 use Rattle.std.specs.List.{All}
 use Rattle.std.proofs.lemmas.Bool.{true≢false}
 use Rattle.std.proofs.lemmas.List.Elements.{All-push}
-use Rattle.calculus_table.specs.Algebra.{Algebra}
-use Rattle.network_words.specs.Edge.{edge_count}
 use Rattle.closure_workers.specs.declared.worker.Desk.{Desk}
 use Rattle.closure_workers.specs.Workers.{IsDesk, AreDealt, slices_of}
 use Rattle.closure_workers.proofs.DealtSlices.{AreDealt-more}

@@ -1,4 +1,4 @@
-use Rattle.std.proofs.Common.{◌≡◌, ℕ, ◌+◌, ◌*◌, ◌≤◌, ◌++◌, ◌∷◌, [], List, length, length-append, ap, ap₂, sym, subst, ◌∙◌, arith}
+use Rattle.std.proofs.Common.{◌≡◌, ℕ, ◌+◌, ◌++◌, ◌∷◌, [], List, length, length-append, ap, ap₂, sym, subst, ◌∙◌, arith}
 use Rattle.std.specs.List.{All}
 use Rattle.std.specs.Prelude.{Some}
 use Rattle.std.proofs.lemmas.Grind.{common_steps}
@@ -6,11 +6,9 @@ use Rattle.std.proofs.lemmas.List.{append-nil, length-map}
 use Rattle.std.proofs.lemmas.List.Elements.{All-push, All-pop}
 use Rattle.network_words.specs.Edge.{edge_count}
 use Rattle.network_words.specs.Network.{Refines}
-use Rattle.network_words.specs.declared.fact.Fact.{Fact}
 use Rattle.network_words.proofs.Networks.{Refines-refl, Refines-trans}
 use Rattle.narrow_core.specs.Actor.{ActorState, met_words}
 use Rattle.narrow_core.proofs.Sights.{met-within_l, met-within_r}
-use Rattle.closure_workers.specs.declared.worker.Desk.{Desk}
 use Rattle.closure_workers.specs.declared.worker.Worker.{Worker}
 use Rattle.closure_workers.specs.Workers.{HasEnded, IsSeenDesk, slices_of, slices_at}
 use Rattle.closure_workers.proofs.DealtSlices.{slices_of-push, slices_at-push, AreAmong-next, AreDealt-handed}

@@ -1,8 +1,7 @@
-use Rattle.std.proofs.Common.{◌≡◌, ℕ, ◌+◌, ◌*◌, ◌≤◌, ◌∙◌, [], List, length, ap, sym, subst, arith}
+use Rattle.std.proofs.Common.{◌≡◌, ℕ, ◌+◌, ◌*◌, ◌≤◌, ◌∙◌, [], length, ap, sym, subst, arith}
 use Rattle.std.specs.List.{All}
 use Rattle.std.proofs.lemmas.Result.{on_ok_weaker, IfOk-weaker}
 use Rattle.network_words.specs.Edge.{edge_count}
-use Rattle.network_words.specs.declared.fact.Fact.{Fact}
 use Rattle.narrow_core.specs.Actor.{ActorState}
 use Rattle.edge_table.specs.Opening.{ClosedState, algebra_of, opening_over}
 use Rattle.edge_table.specs.declared.rule.Opening.{Opening}

@@ -1,12 +1,7 @@
-use Rattle.std.proofs.Common.{◌≡◌, ℕ, ◌<◌, ◌+◌, Bool, true, false, List, refl, sym, ◌∙◌, ap, subst, arith, inl, inr}
+use Rattle.std.proofs.Common.{◌≡◌, ℕ, ◌<◌, ◌+◌, Bool, true, false, refl, subst, arith, inl, inr}
 use Rattle.std.specs.Prelude.{sum, if◌then◌else◌}
-use Rattle.std.specs.List.{All}
 use Rattle.std.proofs.lemmas.Bool.{true≢false}
-use Rattle.calculus_table.specs.Algebra.{Algebra}
 use Rattle.calculus_table.specs.Calculus.{IsCalculus}
-use Rattle.closure_workers.specs.declared.worker.Desk.{Desk}
-use Rattle.closure_workers.specs.declared.rounds.Workers.{Workers}
-use Rattle.closure_workers.specs.Slices.{HasClash}
 use Rattle.closure_workers.proofs.OneRound.{HaveGoneOn-first, HaveGoneOn-next, HaveClosed-gone, sum-next}
 use Rattle.closure_workers.proofs.rounds.rounds.Goals as goal
 

@@ -1,4 +1,4 @@
-use Rattle.std.proofs.Common.{◌≡◌, ℕ, ◌+◌, ◌⊎◌, true}
+use Rattle.std.proofs.Common.{◌≡◌, ◌+◌, ◌⊎◌, true}
 use Rattle.std.specs.Prelude.{sum, if◌then◌else◌}
 use Rattle.std.specs.List.{All}
 use Rattle.closure_workers.specs.declared.worker.Desk.{Desk}

@@ -1,4 +1,4 @@
-use Rattle.std.proofs.Common.{◌≡◌, refl, ap, sym, subst}
+use Rattle.std.proofs.Common.{refl, ap, sym, subst}
 use Rattle.edge_table.specs.Opening.{algebra_of}
 use Rattle.slice_copy.specs.Copies.{TakesOver}
 use Rattle.slice_copy.proofs.Copies.{TakesOver-trans}

@@ -1,5 +1,5 @@
 use Rattle.edge_table.specs.Opening.{algebra_of}
-use Rattle.slice_copy.proofs.Copies.{TakesOver-refl, TakesOver-trans}
+use Rattle.slice_copy.proofs.Copies.{TakesOver-trans}
 use Rattle.closure_workers.proofs.Working.{WorksOn-trans}
 use Rattle.closure_workers.proofs.worker.Worker.read_on.Goals as goal
 
