@@ -3,6 +3,7 @@
 
 Usage: tools/expected_answers.py close CALC < NETWORK
        tools/expected_answers.py solve CALC [--class C] [--polygons P] [--budget N] [--cert] < NETWORK
+       tools/expected_answers.py intervals [--class C] [--budget N] < NETWORK
        tools/expected_answers.py check CALC CERT [--polygons P] < NETWORK
        tools/expected_answers.py trace CALC CERT [--polygons P] < NETWORK
        tools/expected_answers.py relate P [--pattern T]
@@ -441,6 +442,53 @@ def leaf(kind):
     return {"kind": kind, "steps": "sweep"}
 
 
+# ---- schedules
+
+# how the end points of two intervals compare in a base relation of Allen: the begin of the one with the begin and with the
+# end of the other, and then its end with both
+ALLEN = {"b": "<<<<", "m": "<<=<", "o": "<<><", "s": "=<><", "d": "><><", "f": "><>=", "eq": "=<>="}
+TURNED = {"<": ">", "=": "=", ">": "<"}
+
+
+def comparisons(name):
+    """How the end points of two intervals in a base relation compare."""
+    if name in ALLEN:
+        return ALLEN[name]
+    begins, begin_end, end_begin, ends = (TURNED[sign] for sign in ALLEN[name[:-1]])
+    return begins + end_begin + begin_end + ends
+
+
+def compared_points(scenario):
+    """Two end points and the sign between them, for each two that the scenario compares, both ways round. Node i begins at the
+    end point 2 i and ends at the next."""
+    found = [(2 * i, 2 * i + 1, "<") for i in range(scenario.nodes)]
+    for (i, j), word in scenario.words.items():
+        (base,) = scenario.calculus.members(word)
+        points = [(p, q) for p in (2 * i, 2 * i + 1) for q in (2 * j, 2 * j + 1)]
+        found += [(p, q, sign) for (p, q), sign in zip(points, comparisons(scenario.calculus.names[base]))]
+    return found + [(q, p, TURNED[sign]) for p, q, sign in found]
+
+
+def ranks(scenario):
+    """The rank of each end point: the length of the longest chain that leads up to it, as each class of equal end points is a
+    link of it. So many rounds as there are end points make each chain whole."""
+    compared, found = compared_points(scenario), [0] * (2 * scenario.nodes)
+    for _ in found:
+        for p, q, sign in compared:
+            if sign != ">":
+                found[q] = max(found[q], found[p] + (sign == "<"))
+    signs = ["<=>"[(found[p] >= found[q]) + (found[p] > found[q])] for p, q, _ in compared]
+    need(signs == [sign for _, _, sign in compared], "the end points of the scenario have no order")
+    return found
+
+
+def schedule_text(scenario):
+    """A line for each node: its name or number, and the ranks of its end points."""
+    found = ranks(scenario)
+    names = scenario.names or range(scenario.nodes)
+    return "".join(f"{name} {found[2 * i]} {found[2 * i + 1]}\n" for i, name in enumerate(names))
+
+
 # ---- certificates
 
 def node_json(node, version):
@@ -728,6 +776,14 @@ def solve(words, source):
     return text, STATUS[search.verdict]
 
 
+def intervals(words, source):
+    calculus = calculus_of("allen")
+    members = class_of(words.guide or "none", calculus)
+    search = Search(read_network(source(), calculus), members, words.budget)
+    text = f"{search.verdict} {search.splits}\n" + (schedule_text(search.scenario) if search.scenario else "")
+    return text, STATUS[search.verdict]
+
+
 def checked(words, source):
     """The certificate, which is accepted, and its network."""
     calculus = calculus_of(words.calculus)
@@ -784,6 +840,7 @@ def arguments():
     commands = parser.add_subparsers(required=True)
     for answer, name, places, options in (
             (close, "close", "calculus", "workers"), (solve, "solve", "calculus", "class polygons budget cert workers"),
+            (intervals, "intervals", "", "class budget workers"),
             (check_command, "check", "calculus certificate", "polygons"), (trace, "trace", "calculus certificate", "polygons"),
             (relate, "relate", "polygons", "pattern"), (scene, "scene", "polygons", ""),
             (demo, "demo", "seed nodes", "")):

@@ -1,7 +1,10 @@
 -- Closing, searching and demonstrating make one text and one status at most.
-use Rattle.std.proofs.Common.{◌≡◌, ℕ, List, ◌++◌, refl, sym, ◌∙◌, ap, subst}
+use Rattle.std.proofs.Common.{◌≡◌, ℕ, List, ◌++◌, codes, refl, sym, ◌∙◌, ap, subst}
 use Rattle.calculus_table.specs.Calculus.{NamedAlgebra}
 use Rattle.calculus_builtin.specs.Rcc8.{rcc8_algebra}
+use Rattle.calculus_builtin.specs.Allen.{allen_algebra}
+use Rattle.allen_real.proofs.Uniqueness.{ranks-one}
+use Rattle.qsr_lex.specs.Printed.{text_below}
 use Rattle.tract_classes.specs.BuiltIn.{h8}
 use Rattle.network_words.specs.Network.{Network}
 use Rattle.network_words.specs.Closure.{IsClosure}
@@ -10,16 +13,18 @@ use Rattle.network_file.specs.NetworkText.{network_text}
 use Rattle.split_search.specs.Ruled.{IsVerdict}
 use Rattle.split_search.specs.Verdicts.{nodes_of}
 use Rattle.split_search.specs.declared.verdict.Verdict.{Verdict}
+use Rattle.split_search.specs.declared.verdict.Verdict.TheVariants as verdict
 use Rattle.split_search.proofs.OneVerdict.{verdict_one}
 use Rattle.geo_facts.proofs.OneDemo.{demo-one}
-use Rattle.qsr_words.specs.Asked.{SolveAsked, DemoAsked}
+use Rattle.qsr_words.specs.Asked.{SolveAsked, IntervalsAsked, DemoAsked}
 use Rattle.qsr_words.specs.declared.TheConstants.{MAX_BUDGET}
 use Rattle.qsr_inputs.specs.declared.statuses.Status.{Status}
 use Rattle.qsr_inputs.specs.declared.statuses.Status.TheVariants.{Done, No}
 use Rattle.qsr_answers.specs.Texts.{verdict_line}
 use Rattle.qsr_answers.specs.Verdicts.{answer_text, verdict_status, verdict_word}
 use Rattle.qsr_answers.specs.Demonstrations.{Demonstrates, demo_head, members_in_all}
-use Rattle.qsr_answers.specs.Commands.{ClosesNetwork, SolvesNetwork, IsClosureText, IsStatusOf}
+use Rattle.qsr_answers.specs.Intervals.{IsIntervalsText, interval_line}
+use Rattle.qsr_answers.specs.Commands.{ClosesNetwork, SolvesNetwork, RealisesNetwork, IsClosureText, IsStatusOf}
 use Rattle.qsr_answers.proofs.CertificatesOnce.{IsSame}
 
 -- ---- closing
@@ -52,11 +57,31 @@ module _ (c : NamedAlgebra) (net : Network) where
 
   pub solves_once : (asked : SolveAsked) (class t u : List ℕ) (s r : Status) → SolvesNetwork asked c class net t s → SolvesNetwork asked c class net u r → IsSame t u s r
   solves_once asked class t u s r h k =
-      let same : h.verdict ≡ k.verdict = verdict_one c.algebra net.nodes class asked.budget net.words h.verdict k.verdict h.ruled k.ruled in
+      let same : h.verdict ≡ k.verdict = verdict_one c.algebra net.nodes class asked.budget net.words h.verdict k.verdict h.on_network.ruled k.on_network.ruled in
       record {
         text = h.text_is ∙ ap (answer_text asked.is_cert c net) same ∙ sym k.text_is;
         status = h.status_is ∙ ap verdict_status same ∙ sym k.status_is;
       }
+
+-- ---- intervals
+
+intervals_once : (net : Network) (v : Verdict) (t u : List ℕ) → IsIntervalsText net v t → IsIntervalsText net v u → t ≡ u
+intervals_once net (verdict.Yes relations nodes) t u h k =
+    let same : h.intervals ≡ k.intervals = ranks-one net.nodes relations h.intervals k.intervals h.realised k.realised in
+    h.text_is ∙ ap (λ xs. verdict_line (codes "yes") nodes ++ text_below net.nodes (interval_line net.names xs)) same
+    ∙ sym k.text_is
+intervals_once net (verdict.No nodes) t u h k = h ∙ sym k
+intervals_once net (verdict.Budget nodes) t u h k = h ∙ sym k
+
+pub realises_once : (asked : IntervalsAsked) (class : List ℕ) (net : Network) (t u : List ℕ) (s r : Status) →
+    RealisesNetwork asked class net t s → RealisesNetwork asked class net u r → IsSame t u s r
+realises_once asked class net t u s r h k =
+    let same : h.verdict ≡ k.verdict = verdict_one allen_algebra net.nodes class asked.budget net.words
+    h.verdict k.verdict h.on_network.ruled k.on_network.ruled in
+    record {
+      text = intervals_once net k.verdict t u (subst (λ v. IsIntervalsText net v t) same h.text_is) k.text_is;
+      status = h.status_is ∙ ap verdict_status same ∙ sym k.status_is;
+    }
 
 -- ---- demonstrations
 

@@ -1,5 +1,5 @@
 -- A demonstration never answers no: the relations of its rectangles are a scenario of its network.
-use Rattle.std.proofs.Common.{◌≡◌, ◌≢◌, ℕ, List, sym, subst, ◌∙◌}
+use Rattle.std.proofs.Common.{◌≢◌, ℕ, List, sym, subst, ◌∙◌}
 use Rattle.calculus_builtin.specs.Rcc8.{rcc8_algebra}
 use Rattle.calculus_builtin.proofs.Rcc8Laws.{rcc8_lawful}
 use Rattle.network_words.specs.Network.{Network}
@@ -14,7 +14,7 @@ use Rattle.geo_sound.proofs.Demos.{demo-can_hold}
 use Rattle.qsr_words.specs.Asked.{DemoAsked}
 use Rattle.qsr_words.specs.declared.TheConstants.{MAX_BUDGET}
 use Rattle.qsr_inputs.specs.declared.statuses.Status.{Status}
-use Rattle.qsr_inputs.specs.declared.statuses.Status.TheVariants.{Done, No, Budget}
+use Rattle.qsr_inputs.specs.declared.statuses.Status.TheVariants.{No}
 use Rattle.qsr_answers.specs.Demonstrations.{Demonstrates}
 use Rattle.qsr_answers.specs.Verdicts.{verdict_status}
 

@@ -1,5 +1,6 @@
 -- What the verdict on a network's closure says of the network.
-use Rattle.std.proofs.Common.{◌≡◌, ℕ, Bool, true, false, List, ◌++◌, codes, refl, ap, ◌∙◌, subst, sym}
+use Rattle.std.proofs.Common.{◌≡◌, ℕ, Bool, true, false, List, ◌++◌, Result, Ok, Err, codes, refl, ap, ◌∙◌, subst, sym}
+use Rattle.std.specs.Prelude.{IfOk}
 use Rattle.calculus_table.specs.Algebra.{Algebra}
 use Rattle.calculus_table.specs.Calculus.{NamedAlgebra, IsCalculus}
 use Rattle.network_words.specs.Network.{Network, IsNetwork}
@@ -17,12 +18,11 @@ use Rattle.split_search.specs.declared.verdict.Verdict.TheVariants.{Yes, No, Bud
 use Rattle.split_search.proofs.Truths.{verdict-true}
 use Rattle.split_search.proofs.Networks.{closure-network}
 use Rattle.qsr_inputs.specs.Inputs.{Guided, CanGuide}
-use Rattle.qsr_words.specs.Asked.{SolveAsked}
-use Rattle.qsr_inputs.specs.declared.statuses.Status.{Status}
 use Rattle.qsr_answers.specs.Texts.{verdict_line}
 use Rattle.qsr_answers.specs.Certificates.{certificate_of}
-use Rattle.qsr_answers.specs.Verdicts.{HasScenario, RulesOut, verdict_status, verdict_text, answer_text}
-use Rattle.qsr_answers.specs.Commands.{SolvesNetwork}
+use Rattle.qsr_answers.specs.Verdicts.{HasScenario, RulesOut, verdict_text, answer_text}
+use Rattle.qsr_answers.specs.Intervals.{IsIntervalsText}
+use Rattle.qsr_answers.specs.Commands.{IsVerdictOn}
 
 module _ (m : Algebra) (n : ℕ) (words closed : List ℕ) (closure : IsClosure m n words closed) where
   tree_of_closure : (nodes : List TreeNode) (P : List ℕ → NestedTree → Type 0) → HasTree m n closed nodes P → HasTree m n words nodes P
@@ -70,38 +70,55 @@ module _ (g : Guided) (net closed : Network) (lawful : IsCalculus g.calculus.alg
   pub closed_network : IsNetwork g.calculus.algebra closed.nodes closed.words
   closed_network = subst (λ n. IsNetwork g.calculus.algebra n closed.words) (sym same_nodes) (closure-network g.calculus.algebra net.nodes net.words closed.words network closure)
 
-  same_text : (v : Verdict) → verdict_text g.calculus closed v ≡ verdict_text g.calculus net v
+  -- the verdict on the closed network is one on the network
+  verdict_on : (budget : ℕ) (v : Verdict) →
+      IsVerdict g.calculus.algebra closed.nodes g.class budget closed.words v →
+      IsVerdictOn g.calculus g.class budget net v
+  verdict_on budget v h =
+      let own = subst (λ n. IsVerdict g.calculus.algebra n g.class budget closed.words v) same_nodes h in
+      let ruled = verdict_of_closure g.calculus.algebra net.nodes net.words closed.words closure g.class budget v own in
+      let is_true = verdict_true g net budget v lawful network guides ruled in
+      record {
+        ruled = ruled;
+        is_true = is_true;
+        rules_out = no_rules_out g.calculus net budget v lawful network is_true;
+      }
+
+  pub verdicts_on : {E : Type 0} (budget : ℕ) (result : Result Verdict E) →
+      IfOk result (IsVerdict g.calculus.algebra closed.nodes g.class budget closed.words) →
+      IfOk result (IsVerdictOn g.calculus g.class budget net)
+  verdicts_on budget (Ok v) h = verdict_on budget v h
+  verdicts_on budget (Err e) h = tt
+
+-- ---- the text of a verdict, which tells nothing of the sets of the network
+
+module _ (c : NamedAlgebra) (net closed : Network) (rest : closed ≡ record net { words = closed.words }) where
+  same_text : (v : Verdict) → verdict_text c closed v ≡ verdict_text c net v
   same_text (Yes relations nodes) =
-      let text_of : Network → List ℕ = λ n. verdict_line (codes "yes") nodes ++ network_text g.calculus (record n { words = as_network relations }) in
+      let text_of : Network → List ℕ = λ n. verdict_line (codes "yes") nodes ++ network_text c (record n { words = as_network relations }) in
       ap text_of rest
   same_text (No nodes) = refl
   same_text (Budget nodes) = refl
 
-  same_certificate : (v : Verdict) → certificate_text (certificate_of g.calculus closed v) ≡ certificate_text (certificate_of g.calculus net v)
-  same_certificate v = ap (λ n. certificate_text (certificate_of g.calculus n v)) rest ∙ of_nodes v
+  same_certificate : (v : Verdict) → certificate_text (certificate_of c closed v) ≡ certificate_text (certificate_of c net v)
+  same_certificate v = ap (λ n. certificate_text (certificate_of c n v)) rest ∙ of_nodes v
     where
       -- only the number of nodes is in the certificate
-      of_nodes : (w : Verdict) → certificate_text (certificate_of g.calculus (record net { words = closed.words }) w) ≡ certificate_text (certificate_of g.calculus net w)
+      of_nodes : (w : Verdict) → certificate_text (certificate_of c (record net { words = closed.words }) w) ≡ certificate_text (certificate_of c net w)
       of_nodes (Yes relations nodes) = refl
       of_nodes (No nodes) = refl
       of_nodes (Budget nodes) = refl
 
-  pub same_answer : (is_cert : Bool) (v : Verdict) → answer_text is_cert g.calculus closed v ≡ answer_text is_cert g.calculus net v
+  pub same_answer : (is_cert : Bool) (v : Verdict) → answer_text is_cert c closed v ≡ answer_text is_cert c net v
   same_answer true v = same_certificate v
   same_answer false v = same_text v
 
-  -- the verdict on the closed network, with its text, solves the network
-  pub solves_by_closure : (asked : SolveAsked) (v : Verdict) (text : List ℕ) (status : Status) → IsVerdict g.calculus.algebra closed.nodes g.class asked.budget closed.words v →
-      text ≡ answer_text asked.is_cert g.calculus closed v → status ≡ verdict_status v → SolvesNetwork asked g.calculus g.class net text status
-  solves_by_closure asked v text status h t s =
-      let own = subst (λ n. IsVerdict g.calculus.algebra n g.class asked.budget closed.words v) same_nodes h in
-      let ruled = verdict_of_closure g.calculus.algebra net.nodes net.words closed.words closure g.class asked.budget v own in
-      let is_true = verdict_true g net asked.budget v lawful network guides ruled in
-      record {
-        verdict = v;
-        ruled = ruled;
-        is_true = is_true;
-        rules_out = no_rules_out g.calculus net asked.budget v lawful network is_true;
-        text_is = t ∙ same_answer asked.is_cert v;
-        status_is = s;
-      }
+pub same_intervals : (net closed : Network) (v : Verdict) (text : List ℕ) →
+    closed ≡ record net { words = closed.words } → IsIntervalsText closed v text → IsIntervalsText net v text
+same_intervals net closed v text rest h = of_names v (subst (λ n. IsIntervalsText n v text) rest h)
+  where
+    -- only the number and the names of the nodes are in the text
+    of_names : (w : Verdict) → IsIntervalsText (record net { words = closed.words }) w text → IsIntervalsText net w text
+    of_names (Yes relations nodes) h = h
+    of_names (No nodes) h = h
+    of_names (Budget nodes) h = h

@@ -1,6 +1,7 @@
 -- What each command makes of its input: the text and the status of its answer.
 use Rattle.std.specs.Prelude.{◌≡◌, ⊤, ℕ, List, Contains}
 use Rattle.calculus_table.specs.Calculus.{NamedAlgebra}
+use Rattle.calculus_builtin.specs.Allen.{allen_calculus}
 use Rattle.network_words.specs.Network.{Network}
 use Rattle.network_words.specs.Closure.{IsClosure}
 use Rattle.network_file.specs.NetworkText.{network_text}
@@ -9,7 +10,7 @@ use Rattle.cert_file.specs.Written.{certificate_text}
 use Rattle.split_search.specs.Ruled.{IsVerdict}
 use Rattle.split_search.specs.Verdicts.{IsTrueOf}
 use Rattle.split_search.specs.declared.verdict.Verdict.{Verdict}
-use Rattle.qsr_words.specs.Asked.{SolveAsked}
+use Rattle.qsr_words.specs.Asked.{SolveAsked, IntervalsAsked}
 use Rattle.qsr_inputs.specs.Inputs.{Related}
 use Rattle.qsr_inputs.specs.declared.statuses.Status.{Status}
 use Rattle.qsr_inputs.specs.declared.statuses.Status.TheVariants.{Done, No, Budget, NotAccepted}
@@ -18,6 +19,7 @@ use Rattle.qsr_answers.specs.Verdicts.{answer_text, verdict_status, RulesOut}
 use Rattle.qsr_answers.specs.Certificates.{IsAccepted, IsNotAccepted, IsTracedForm, RulesOutScenarios}
 use Rattle.qsr_answers.specs.Relations.{IsTextOfPolygons}
 use Rattle.qsr_answers.specs.Scenes.{IsSceneText}
+use Rattle.qsr_answers.specs.Intervals.{IsIntervalsText}
 use Rattle.geo_facts.specs.PolygonFile.{NamedRing}
 
 -- ---- close
@@ -40,16 +42,32 @@ pub record ClosesNetwork (c : NamedAlgebra) (net : Network) (text : List ℕ) (s
   pub closure_text : IsClosureText c net closed text
   pub verdict : IsStatusOf closed status
 
+-- ---- searching
+
+-- the verdict on a network that is ruled. It is true of it: a yes has a scenario of it, a no a tree that refutes it, so
+-- that it has none, and the budget is spent only where it may be
+pub record IsVerdictOn (c : NamedAlgebra) (class : List ℕ) (budget : ℕ) (net : Network) (verdict : Verdict) : Type 0 where
+  pub ruled : IsVerdict c.algebra net.nodes class budget net.words verdict
+  pub is_true : IsTrueOf c.algebra net.nodes net.words budget verdict
+  pub rules_out : RulesOut c net verdict
+
 -- ---- solve
 
--- the text and the status of a search: those of the verdict that is ruled. It is true of the network: a yes has a scenario of it, a
--- no a tree that refutes it, so that it has none, and the budget is spent only where it may be
+-- the text and the status of a search: those of the verdict that is ruled
 pub record SolvesNetwork (asked : SolveAsked) (c : NamedAlgebra) (class : List ℕ) (net : Network) (text : List ℕ) (status : Status) : Type 0 where
   pub verdict : Verdict
-  pub ruled : IsVerdict c.algebra net.nodes class asked.budget net.words verdict
-  pub is_true : IsTrueOf c.algebra net.nodes net.words asked.budget verdict
-  pub rules_out : RulesOut c net verdict
+  pub on_network : IsVerdictOn c class asked.budget net verdict
   pub text_is : text ≡ answer_text asked.is_cert c net verdict
+  pub status_is : status ≡ verdict_status verdict
+
+-- ---- intervals
+
+-- the text and the status of a search for intervals, likewise
+pub record RealisesNetwork (asked : IntervalsAsked) (class : List ℕ) (net : Network) (text : List ℕ)
+    (status : Status) : Type 0 where
+  pub verdict : Verdict
+  pub on_network : IsVerdictOn allen_calculus class asked.budget net verdict
+  pub text_is : IsIntervalsText net verdict text
   pub status_is : status ≡ verdict_status verdict
 
 -- ---- check and trace

@@ -4,6 +4,7 @@ pub mod Certificates
 pub mod Verdicts
 pub mod Relations
 pub mod Scenes
+pub mod Intervals
 pub mod Demonstrations
 pub mod Commands
 pub use Rattle.network_words.specs.Network

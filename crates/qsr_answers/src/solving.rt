@@ -14,11 +14,9 @@ ghost use Rattle.qsr_answers.specs.Certificates.{certificate_of};
 ghost use Rattle.qsr_answers.specs.Verdicts.{HasScenario, verdict_word, verdict_status, verdict_text, answer_text};
 
 use crate::answers::Answer;
-use crate::sharing::workers_for;
+use crate::searching::verdict;
 use calculus_table::{Calculus, Memory, lawful};
 use cert_file::{Cert, Claim};
-use closure_workers::close_parallel;
-use compose_fast::Fast;
 use network_file::text;
 use network_words::Net;
 use qsr_inputs::{GuidedCalculus, Status};
@@ -26,7 +24,7 @@ use qsr_outside::Gate;
 use qsr_words::Solve;
 use refutation::Tree;
 use scenario::{Scenario, make_atomic};
-use split_search::{Verdict, solve};
+use split_search::Verdict;
 use std::alloc::Global;
 use std::thread::Threads;
 
@@ -45,11 +43,8 @@ pub fn solved_answer<R: Threads + Sync, G: Gate + Sync>(
     ensures { IfOk result (λ answer. SolvesNetwork (solve_of request.now) guided.now.calculus
         guided.now.class net (string_bytes answer.text) answer.status) }
 {
-    lawful(&guided.calculus);
-    let fast = Fast::new(alloc, &guided.calculus)?;
-    let workers = workers_for(&net, &fast, request.workers);
-    close_parallel(rt, alloc, &mut net, &fast, workers, gate)?;
-    let verdict = solve(alloc, &net, &fast, &guided.class, request.budget)?;
+    let (budget, workers) = (request.budget, request.workers);
+    let verdict = verdict(rt, alloc, &mut net, guided, budget, workers, gate)?;
     let status = verdict_status(&verdict);
     let text = answer_text(alloc, net, &guided.calculus, verdict, request.cert)?;
     Ok(Answer { text, status })
@@ -177,7 +172,7 @@ fn scenario_text(
 }
 
 /// The line of a verdict: its word, and the number of splits.
-fn line(alloc: Global, word: &str, tree: &Tree) -> Result<String, Memory>
+pub(crate) fn line(alloc: Global, word: &str, tree: &Tree) -> Result<String, Memory>
     requires { length tree.now < 2 ^ 32 }
     ensures { IfOk result (λ line. string_bytes line ≡ verdict_line word.now tree.now) }
 {

@@ -7,8 +7,8 @@ use Rattle.std.specs.String.{string_bytes}
 use Rattle.std.proofs.lemmas.Bool.{false≢true}
 use Rattle.qsr_lex.specs.declared.TheConstants.{MAX_TEXT}
 use Rattle.qsr_outside.specs.Documents.{Documents}
-use Rattle.qsr_words.specs.Asked.{Asked, CloseAsked, SolveAsked, CheckAsked, DemoAsked}
-use Rattle.qsr_words.specs.Asked.{close, solve, check, trace, relate, scene, serve, demo}
+use Rattle.qsr_words.specs.Asked.{Asked, CloseAsked, CheckAsked, DemoAsked}
+use Rattle.qsr_words.specs.Asked.{close, solve, intervals, check, trace, relate, scene, serve, demo}
 use Rattle.split_search.specs.declared.verdict.Verdict.{Verdict}
 use Rattle.split_search.specs.declared.verdict.Verdict.TheVariants as verdict
 use Rattle.qsr_inputs.specs.Stops.{Cause, HasCause}
@@ -51,10 +51,15 @@ closes_answer a closed text Done h = record { answered = tt; written = record { 
 closes_answer a closed text No h = record { answered = tt; written = record { may_end = tt; is_text = tt } }
 closes_answer a closed text _ h = absurd h
 
-solves_answer : (a : SolveAsked) (v : Verdict) (text : List ℕ) → IsAnswer (solve a) text (verdict_status v)
-solves_answer a (verdict.Yes relations nodes) text = record { answered = tt; written = record { may_end = tt; is_text = tt } }
-solves_answer a (verdict.No nodes) text = record { answered = tt; written = record { may_end = tt; is_text = tt } }
-solves_answer a (verdict.Budget nodes) text = record { answered = tt; written = record { may_end = tt; is_text = tt } }
+-- a command that may end as a search does
+searches_answer : (asked : Asked) → ((status : Status) → IsSolveEnd status → MayEnd (Some asked) status) →
+    (v : Verdict) (text : List ℕ) → IsAnswer asked text (verdict_status v)
+searches_answer asked may (verdict.Yes relations nodes) text =
+    record { answered = tt; written = record { may_end = may Done tt; is_text = tt } }
+searches_answer asked may (verdict.No nodes) text =
+    record { answered = tt; written = record { may_end = may No tt; is_text = tt } }
+searches_answer asked may (verdict.Budget nodes) text =
+    record { answered = tt; written = record { may_end = may Budget tt; is_text = tt } }
 
 checks_answer : (a : CheckAsked) (x : Claimed) (net : _) (text : List ℕ) (status : Status) →
     ChecksNetwork x.calculus x.certificate net text status → IsAnswer (check a) text status
@@ -81,7 +86,10 @@ demo_answer a (verdict.Budget nodes) text never =
 makes_answer : (asked : Asked) (given : GivenTo asked) (read : ReadBy asked) (text : List ℕ) (status : Status) →
     is_served (Some asked) ≡ false → Makes asked given read text status → IsAnswer asked text status
 makes_answer (close a) c net text status whole h = closes_answer a h.closed text status h.verdict
-makes_answer (solve a) given net text status whole h = subst (IsAnswer (solve a) text) (sym h.status_is) (solves_answer a h.verdict text)
+makes_answer (solve a) given net text status whole h = subst (IsAnswer (solve a) text) (sym h.status_is)
+    (searches_answer (solve a) (λ end is. is) h.verdict text)
+makes_answer (intervals a) class net text status whole h = subst (IsAnswer (intervals a) text) (sym h.status_is)
+    (searches_answer (intervals a) (λ end is. is) h.verdict text)
 makes_answer (check a) given net text status whole h = checks_answer a given net text status h
 makes_answer (trace a) given net text status whole h = traces_answer a given net text status h
 makes_answer (relate a) given read text status whole h =
@@ -115,6 +123,7 @@ may_stop : (asked : Asked) (s : Stop) → (documents_of asked ≡ [] → reads_s
     MayEnd (Some asked) (end_of s)
 may_stop (close a) s has = each_end IsCloseEnd s (λ number place. tt) tt tt tt
 may_stop (solve a) s has = each_end IsSolveEnd s (λ number place. tt) tt tt tt
+may_stop (intervals a) s has = each_end IsSolveEnd s (λ number place. tt) tt tt tt
 may_stop (serve a) s has = each_end IsServeEnd s (λ number place. tt) tt tt tt
 may_stop (relate a) s has = each_end IsRelateEnd s (λ number place. tt) tt tt tt
 may_stop (scene a) s has = each_end IsRelateEnd s (λ number place. tt) tt tt tt

@@ -2,23 +2,25 @@
 //! and makes its answer of both.
 ghost use Rattle.std.specs.Prelude.{◌≡◌, IfOk, IfErr};
 ghost use Rattle.std.specs.String.{string_bytes};
-ghost use Rattle.qsr_words.specs.Asked.{close, solve, check, trace, relate, scene};
-ghost use Rattle.qsr_words.specs.Requests.{close_of, solve_of, check_of, relate_of, scene_of, demo_of};
-ghost use Rattle.qsr_words.specs.Requests.{AreWorkersIfNamed, IsSearch, IsCheck, IsDemo};
+ghost use Rattle.qsr_words.specs.Asked.{close, solve, intervals, check, trace, relate, scene};
+ghost use Rattle.qsr_words.specs.Requests.{close_of, solve_of, intervals_of, check_of, relate_of, scene_of};
+ghost use Rattle.qsr_words.specs.Requests.{demo_of, AreWorkersIfNamed, IsSearch, IsIntervalSearch, IsCheck};
+ghost use Rattle.qsr_words.specs.Requests.{IsDemo};
 ghost use Rattle.qsr_answers.specs.Demonstrations.{Demonstrates};
 ghost use Rattle.qsr_commands.specs.Answers.{Answers, AnswersAlone};
 
+use calculus_builtin::allen;
 use calculus_table::{Memory, lawful};
 use qsr_answers::{
-    Answer, checked_answer, closed_answer, demonstration, scene_text, solved_answer, text_of_pairs,
-    traced_answer,
+    Answer, checked_answer, closed_answer, demonstration, realised_answer, scene_text,
+    solved_answer, text_of_pairs, traced_answer,
 };
 use qsr_inputs::{
-    Status, Stop, calculus, network, placed_network, read_claimed, read_drawn, read_related,
-    read_searched,
+    GuidedCalculus, Status, Stop, calculus, class, network, placed_network, read_claimed,
+    read_drawn, read_related, read_searched,
 };
 use qsr_outside::{Gate, Shelf, Source};
-use qsr_words::{Check, Close, Demo, Relate, Scene, Solve};
+use qsr_words::{Check, Close, Demo, Intervals, Relate, Scene, Solve};
 use std::alloc::Global;
 use std::thread::Threads;
 
@@ -60,6 +62,32 @@ pub fn solve_answer<R: Threads + Sync, F: Shelf, S: Source, G: Gate + Sync>(
     let guided = &searched.guided;
     let net = placed_network(rt, alloc, source, &guided.calculus, &searched.polygons)?;
     match solved_answer(rt, alloc, net, guided, request, gate) {
+        Ok(answer) => Ok(answer),
+        Err(Memory) => Err(Stop::Memory),
+    }
+}
+
+/// What `intervals` writes: the verdict on the network of the source, over Allen's calculus, and intervals after a yes;
+/// or why nothing.
+pub fn intervals_answer<R: Threads + Sync, F: Shelf, S: Source, G: Gate + Sync>(
+    rt: &R,
+    alloc: Global,
+    request: &Intervals,
+    shelf: &mut F,
+    source: &mut S,
+    gate: &G,
+) -> Result<Answer, Stop>
+    requires { IsIntervalSearch (intervals_of request.now) }
+    ensures { Answers F.documents F.faults F.given F.absent_openings S.left S.faults S.given
+        (intervals (intervals_of request.now)) shelf.old shelf.new source.old source.new result }
+{
+    let Ok(calculus) = allen(alloc) else {
+        return Err(Stop::Memory);
+    };
+    let class = class(alloc, shelf, request.class.as_str(), &calculus)?;
+    let net = network(alloc, source, &calculus)?;
+    let guided = GuidedCalculus { calculus, class };
+    match realised_answer(rt, alloc, net, &guided, request, gate) {
         Ok(answer) => Ok(answer),
         Err(Memory) => Err(Stop::Memory),
     }

@@ -4,6 +4,7 @@ use Rattle.std.proofs.Common.{◌∙◌, ap, subst, arith}
 use Rattle.std.specs.Prelude.{IsSomeAnd, MatchOption, slice_index}
 use Rattle.std.proofs.lemmas.List.{same_lists, get_or_default, length-map}
 use Rattle.calculus_table.specs.Calculus.{NamedAlgebra}
+use Rattle.calculus_builtin.specs.Allen.{allen_calculus}
 use Rattle.calculus_load.specs.TableFile.{table_of}
 use Rattle.calculus_load.proofs.Faults.{load-one, loaded-none}
 use Rattle.calculus_load.specs.declared.fault.LoadFault.{LoadFault}
@@ -33,7 +34,7 @@ use Rattle.geo_facts.specs.declared.fault.FactFault.TheVariants as fact
 use Rattle.geo_facts.proofs.OneAnswer.{file-one, file_fault-one, file-no_fault}
 use Rattle.geo_facts.proofs.OneFacts.{facts-one, fact_fault-one, nodes-no_fault}
 use Rattle.qsr_outside.specs.Documents.{Documents, document}
-use Rattle.qsr_words.specs.Asked.{Asked, close, solve, check, trace, relate, scene, serve, demo}
+use Rattle.qsr_words.specs.Asked.{Asked, close, solve, intervals, check, trace, relate, scene, serve, demo}
 use Rattle.qsr_inputs.specs.Stops.{Cause, refuses, is_long}
 use Rattle.qsr_inputs.specs.Parts.{Then, IsOne}
 use Rattle.qsr_inputs.specs.Numbers.{load_refusal, class_refusal, file_refusal, cert_refusal, geo_refusal, fact_refusal, pattern_refusal}
@@ -295,6 +296,7 @@ DrawnOf-one documents polygons = Then-one (PolygonsOf documents polygons) SomePo
 pub DocumentsGive-one : (asked : Asked) (documents : Documents) → IsOne (DocumentsGive asked documents)
 DocumentsGive-one (close asked) documents = CalculusOf-one documents asked.calculus
 DocumentsGive-one (solve asked) documents = SearchedOf-one documents asked.calculus asked.class asked.polygons
+DocumentsGive-one (intervals asked) documents = ClassOf-one documents asked.class allen_calculus
 DocumentsGive-one (check asked) documents = ClaimedOf-one documents asked.calculus asked.certificate asked.polygons
 DocumentsGive-one (trace asked) documents = ClaimedOf-one documents asked.calculus asked.certificate asked.polygons
 DocumentsGive-one (relate asked) documents = RelatedOf-one documents asked.polygons asked.pattern
@@ -370,6 +372,7 @@ PlacedNetwork-one bytes c polygons = Then-one (SourceNetwork bytes c) (PlacedOn 
 pub SourceGives-one : (asked : Asked) (bytes : List ℕ) (given : GivenTo asked) → IsOne (SourceGives asked bytes given)
 SourceGives-one (close asked) bytes c = SourceNetwork-one bytes c
 SourceGives-one (solve asked) bytes given = PlacedNetwork-one bytes given.guided.calculus given.polygons
+SourceGives-one (intervals asked) bytes class = SourceNetwork-one bytes allen_calculus
 SourceGives-one (check asked) bytes given = PlacedNetwork-one bytes given.calculus given.polygons
 SourceGives-one (trace asked) bytes given = PlacedNetwork-one bytes given.calculus given.polygons
 SourceGives-one (relate asked) bytes given = λ x y p q. p ∙ sym q

@@ -210,6 +210,17 @@ fits_rcc8 true y h e = refl
 fits_rcc8 false true h e = h
 fits_rcc8 false false h e = absurd (false≢true e)
 
+-- and none fits Allen's calculus
+pub no_rcc8_class : (class : List ℕ) → class_fits (codes "allen") class ≡ true → is_rcc8_class class ≡ true → ⊥
+no_rcc8_class class fits e = false≢true (fits_rcc8 false (is_rcc8_class class) fits e)
+
+-- the class of a word over Allen's calculus
+pub AllenClass-there : (documents : Documents) (word : List ℕ) → class_fits (codes "allen") word ≡ true →
+    AreThereIn documents (named_by_class word) →
+    There (ClassOf documents word allen_calculus) (IsGuideFor allen_calculus)
+AllenClass-there documents word fits there =
+    ClassOf-there allen_calculus allen_lawful documents word (λ e. absurd (no_rcc8_class word fits e)) there
+
 -- a lawful calculus, and a class that can guide a search over it
 pub record IsGuide (g : Guided) : Type 0 where
   pub lawful : IsNamedCalculus g.calculus

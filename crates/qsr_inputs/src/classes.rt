@@ -55,8 +55,14 @@ pub(crate) fn calculus_and_class<F: Shelf>(
     Ok(GuidedCalculus { calculus, class })
 }
 
-/// The class of a word over a calculus: one that is built in, or that of the class file of this name.
-fn class<F: Shelf>(alloc: Global, shelf: &mut F, word: &str, c: &Calculus) -> Result<Class, Stop>
+/// The class of a word over a calculus: one that is built in, or that of the class file of this name. A class of RCC-8
+/// that is built in goes with RCC-8 alone.
+pub fn class<F: Shelf>(
+    alloc: Global,
+    shelf: &mut F,
+    word: &str,
+    c: &Calculus,
+) -> Result<Class, Stop>
     requires { is_rcc8_class word.now ≡ true → c.now ≡ rcc8_calculus }
     ensures class { Fetches F.documents F.faults F.given F.absent_openings (named_by_class word.now)
         (λ documents. ClassOf documents word.now c.now) shelf.old shelf.new result }

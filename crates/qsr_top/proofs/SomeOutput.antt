@@ -1,18 +1,20 @@
 -- One text and one status at least are permitted for what words ask for, where the documents that they name are there, and no
 -- polygons are asked for.
 use Rattle.std.proofs.Common.{ℕ, List, [], None, Some, Ok, Err, refl}
+use Rattle.calculus_builtin.specs.Allen.{allen_calculus}
 use Rattle.network_words.specs.Network.{Network}
 use Rattle.qsr_outside.specs.Documents.{Documents}
-use Rattle.qsr_words.specs.Asked.{Asked, close, solve, check, trace}
+use Rattle.qsr_words.specs.Asked.{Asked, close, solve, intervals, check, trace}
 use Rattle.qsr_inputs.specs.Stops.{Cause, refuses, is_long}
 use Rattle.qsr_inputs.specs.Parts.{Then}
 use Rattle.qsr_inputs.specs.Inputs.{Searched, Claimed}
 use Rattle.qsr_inputs.specs.Given.{GivenTo, ReadBy, DocumentsGive, SourceGives, Input, IsInput, InputOf}
 use Rattle.qsr_inputs.specs.declared.statuses.Status.TheVariants.{Usage, Refused, TooLong}
 use Rattle.qsr_inputs.proofs.InputsThere.{There, value, stops, Then-there, IsOfWord, CalculusOf-there, SourceNetwork-there, PlacedNetwork-there, IsOver, IsSoundSearch, SearchedOf-there, IsSoundClaim, ClaimedOf-there}
+use Rattle.qsr_inputs.proofs.InputsThere.{IsGuideFor, AllenClass-there}
 use Rattle.qsr_answers.specs.Texts.{usage_text, refusal_text}
 use Rattle.qsr_answers.proofs.SomeCertificates.{Made, checks_there, traces_there}
-use Rattle.qsr_answers.proofs.SomeAnswers.{closes, solves}
+use Rattle.qsr_answers.proofs.SomeAnswers.{closes, solves, realises}
 use Rattle.qsr_commands.specs.Output.{Makes}
 use Rattle.qsr_top.specs.Laws.{HasOutput, OutputIsThere}
 use Rattle.qsr_commands.proofs.Working.{working_output, long_output}
@@ -69,6 +71,11 @@ output_there (Some (solve asked)) documents bytes fits none there =
     command_out (solve asked) documents bytes IsSoundSearch (λ (g : Searched) (net : Network). IsOver g.guided.calculus net)
     (SearchedOf-there documents asked.calculus asked.class asked.polygons fits.0 none there)
     (λ g known. PlacedNetwork-there bytes g.guided.calculus g.polygons known.none) (λ g net known over. solves asked g.guided net known.guide over)
+output_there (Some (intervals asked)) documents bytes fits none there =
+    command_out (intervals asked) documents bytes (IsGuideFor allen_calculus)
+    (λ (class : List ℕ) (net : Network). IsOver allen_calculus net)
+    (AllenClass-there documents asked.class fits there) (λ class guides. SourceNetwork-there bytes allen_calculus)
+    (λ class net guides over. realises asked class net guides over)
 output_there (Some (check asked)) documents bytes fits none there =
     command_out (check asked) documents bytes IsSoundClaim (λ (k : Claimed) (net : Network). IsOver k.calculus net)
     (ClaimedOf-there documents asked.calculus asked.certificate asked.polygons none there)

@@ -1,7 +1,7 @@
 -- What holds of all outputs.
 use Rattle.std.specs.Prelude.{◌≡◌, ℕ, ⊤, false, List, All, Option, None, Some, IsSomeAnd}
 use Rattle.qsr_outside.specs.Documents.{Documents, document}
-use Rattle.qsr_words.specs.Asked.{Asked, close, solve, check, trace, asked_by}
+use Rattle.qsr_words.specs.Asked.{Asked, close, solve, intervals, check, trace, asked_by}
 use Rattle.qsr_words.specs.Requests.{FitsCalculus}
 use Rattle.qsr_inputs.specs.Told.{named_documents, is_served}
 use Rattle.qsr_inputs.specs.declared.statuses.Status.{Status}
@@ -21,6 +21,7 @@ abbrev pub HasNoPolygons : Option Asked → Type 0
 HasNoPolygons None = ⊤
 HasNoPolygons (Some (close asked)) = ⊤
 HasNoPolygons (Some (solve asked)) = asked.polygons ≡ None
+HasNoPolygons (Some (intervals asked)) = ⊤
 HasNoPolygons (Some (check asked)) = asked.polygons ≡ None
 HasNoPolygons (Some (trace asked)) = asked.polygons ≡ None
 HasNoPolygons asked = ⊥

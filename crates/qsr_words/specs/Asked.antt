@@ -178,6 +178,34 @@ solve_by found =
 abbrev pub solve_asked : List (List ℕ) → Option SolveAsked
 solve_asked = asked_with solve_app solve_by
 
+-- ---- intervals
+
+-- to search for intervals of the network of the source, over Allen's calculus, guided by the class of a word, after
+-- workers whose number may be named
+pub record IntervalsAsked : Type 0 where
+  pub class : List ℕ
+  pub budget : ℕ
+  pub workers : Option ℕ
+
+-- the words of `intervals`: its name, and `--class`, `--budget` and `--workers` with a value each
+abbrev pub intervals_app : App
+intervals_app =
+    with_rule (with_rule (with_rule (new_app (codes "intervals")) (option_rule (codes "class")))
+    (option_rule (codes "budget"))) (option_rule (codes "workers"))
+
+-- with a class, a budget and a number of workers or none, where there are all of them
+abbrev pub intervals_with : Option (List ℕ) → Option ℕ → Option (Option ℕ) → Option IntervalsAsked
+intervals_with class budget workers = option_and_then (λ k. option_and_then (λ b. option_map (λ w.
+    record { class = k; budget = b; workers = w }) workers) budget) class
+
+abbrev pub intervals_by : List Row → Option IntervalsAsked
+intervals_by found =
+    intervals_with (class_asked (codes "allen") (first_of (codes "class") found))
+    (budget_asked (first_of (codes "budget") found)) (workers_asked (first_of (codes "workers") found))
+
+abbrev pub intervals_asked : List (List ℕ) → Option IntervalsAsked
+intervals_asked = asked_with intervals_app intervals_by
+
 -- ---- check and trace
 
 -- to check or to trace a certificate for the network of the source and of the polygons, over the calculus of a word
@@ -304,6 +332,7 @@ demo_asked = asked_with demo_app demo_by
 pub data Asked : Type 0 where
   close : CloseAsked → Asked
   solve : SolveAsked → Asked
+  intervals : IntervalsAsked → Asked
   check : CheckAsked → Asked
   trace : CheckAsked → Asked
   relate : RelateAsked → Asked
@@ -316,12 +345,13 @@ abbrev pub command_by : List ℕ → List (List ℕ) → Option Asked
 command_by name words =
     if bytes_eq name (codes "close") then option_map close (close_asked words)
     else (if bytes_eq name (codes "solve") then option_map solve (solve_asked words)
+    else (if bytes_eq name (codes "intervals") then option_map intervals (intervals_asked words)
     else (if bytes_eq name (codes "check") then option_map check (check_asked words)
     else (if bytes_eq name (codes "trace") then option_map trace (check_asked words)
     else (if bytes_eq name (codes "relate") then option_map relate (relate_asked words)
     else (if bytes_eq name (codes "scene") then option_map scene (scene_asked words)
     else (if bytes_eq name (codes "serve") then option_map serve (serve_asked words)
-    else (if bytes_eq name (codes "demo") then option_map demo (demo_asked words) else None)))))))
+    else (if bytes_eq name (codes "demo") then option_map demo (demo_asked words) else None))))))))
 
 -- what the words after the test of each word ask for, by the first of them
 abbrev pub command_asked : List (List ℕ) → Option Asked

@@ -8,11 +8,12 @@ ghost use Rattle.qsr_words.specs.Requests.{asked_of, IsWithinLimits};
 use crate::check::Check;
 use crate::close::Close;
 use crate::demo::Demo;
+use crate::intervals::Intervals;
 use crate::relate::Relate;
 use crate::scene::Scene;
 use crate::serve::Serve;
 use crate::solve::Solve;
-use crate::{check, close, demo, relate, scene, serve, solve};
+use crate::{check, close, demo, intervals, relate, scene, serve, solve};
 use calculus_table::Memory;
 use std::alloc::Global;
 
@@ -23,6 +24,8 @@ pub enum Request {
     Close(Close),
     /// To search for a scenario of a network.
     Solve(Solve),
+    /// To search for intervals of a network over Allen's calculus.
+    Intervals(Intervals),
     /// To check a certificate.
     Check(Check),
     /// To trace a certificate.
@@ -62,6 +65,7 @@ fn request_by(alloc: Global, name: &str, words: &[String]) -> Result<Request, Me
     let request = match name {
         "close" => close::read(alloc, words)?.map(Request::Close),
         "solve" => solve::read(alloc, words)?.map(Request::Solve),
+        "intervals" => intervals::read(alloc, words)?.map(Request::Intervals),
         "check" => check::read(alloc, words)?.map(Request::Check),
         "trace" => check::read(alloc, words)?.map(Request::Trace),
         "relate" => relate::read(alloc, words)?.map(Request::Relate),

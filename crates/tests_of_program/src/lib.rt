@@ -11,6 +11,8 @@ mod closing;
 #[cfg(test)]
 mod gating;
 #[cfg(test)]
+mod realising;
+#[cfg(test)]
 mod relating;
 #[cfg(test)]
 mod runs;

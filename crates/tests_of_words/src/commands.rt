@@ -213,6 +213,36 @@ fn words_of_relate_are_taken(rt: HostRuntime) -> Result<(), Fail> {
     Ok(())
 }
 
+/// The words, the class, the budget, and the number of workers, if one is named.
+const INTERVALS: [(&[&str], &str, u32, Option<u32>); 4] = [
+    (&["intervals"], "none", 1000, None),
+    (&["intervals", "--class", "none"], "none", 1000, None),
+    (&["intervals", "--class=k", "--budget=0"], "k", 0, None),
+    (
+        &["intervals", "--workers", "64", "--budget", "10000"],
+        "none",
+        10_000,
+        Some(64),
+    ),
+];
+
+#[test]
+fn words_of_intervals_are_taken(rt: HostRuntime) -> Result<(), Fail> {
+    for (words, class, budget, workers) in INTERVALS {
+        let request = asked(rt.alloc(), words)?;
+        let Request::Intervals(intervals) = &request else {
+            return Err(Fail::from("no intervals"));
+        };
+        let taken = (
+            intervals.class.as_str(),
+            intervals.budget,
+            intervals.workers,
+        );
+        assert_same_in(&rt, taken, (class, budget, workers), words);
+    }
+    Ok(())
+}
+
 /// The words, and the polygons.
 const SCENES: [(&[&str], &str); 2] = [(&["scene", "p"], "p"), (&["scene", "a=b"], "a=b")];
 
@@ -268,7 +298,7 @@ fn words_of_demo_are_taken(rt: HostRuntime) -> Result<(), Fail> {
 }
 
 /// Words that ask for nothing.
-const OTHERS: [&[&str]; 58] = [
+const OTHERS: [&[&str]; 64] = [
     &[],
     &["--workers", "2", "close", "rcc8"],
     &["--help"],
@@ -302,6 +332,12 @@ const OTHERS: [&[&str]; 58] = [
     &["solve", "rcc8", "--cert", "true"],
     &["solve", "rcc8", "--pattern", "t"],
     &["solve"],
+    &["intervals", "allen"],
+    &["intervals", "--class", "h8"],
+    &["intervals", "--class="],
+    &["intervals", "--budget", "10001"],
+    &["intervals", "--workers=0"],
+    &["intervals", "--cert"],
     &["check", "rcc8"],
     &["check", "allen", "c", "--polygons", "p"],
     &["check", "rcc8", "c", "--polygons="],
