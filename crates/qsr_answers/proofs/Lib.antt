@@ -10,3 +10,4 @@ pub mod NeverNo
 pub mod SomeCertificates
 pub mod AnswersOnce
 pub mod SomeAnswers
+pub mod Agreeing

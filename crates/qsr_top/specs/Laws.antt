@@ -1,10 +1,17 @@
 -- What holds of all outputs.
-use Rattle.std.specs.Prelude.{◌≡◌, ℕ, ⊤, false, List, All, Option, None, Some, IsSomeAnd}
+use Rattle.std.specs.Prelude.{◌≡◌, ◌≢◌, ℕ, ⊤, false, List, All, replicate, codes, Option, None, Some, IsSomeAnd, Ok}
+use Rattle.calculus_table.specs.Calculus.{NamedAlgebra}
+use Rattle.calculus_table.specs.Composition.{full_of}
+use Rattle.calculus_builtin.specs.Rcc8.{rcc8_calculus}
+use Rattle.network_words.specs.Edge.{edge_count}
+use Rattle.network_words.specs.Network.{Network}
 use Rattle.qsr_outside.specs.Documents.{Documents, document}
-use Rattle.qsr_words.specs.Asked.{Asked, close, solve, intervals, check, trace, asked_by}
+use Rattle.qsr_words.specs.Asked.{Asked, SolveAsked, close, solve, intervals, check, trace, asked_by}
 use Rattle.qsr_words.specs.Requests.{FitsCalculus}
+use Rattle.qsr_inputs.specs.Inputs.{SourceNetwork}
 use Rattle.qsr_inputs.specs.Told.{named_documents, is_served}
 use Rattle.qsr_inputs.specs.declared.statuses.Status.{Status}
+use Rattle.qsr_inputs.specs.declared.statuses.Status.TheVariants.{No}
 use Rattle.qsr_commands.specs.Output.{Output}
 
 -- one text and one status at most, but for scripts, where peeks may show different sets
@@ -41,3 +48,14 @@ OutputIsThere = (asked : Option Asked) (documents : Documents) (bytes : List ℕ
 -- which they do in all that words ask for
 abbrev pub WordsFit : Type 0
 WordsFit = (words : List (List ℕ)) → FitsCalculus (asked_by words)
+
+-- the network of the source states nothing: each of its edges has all base relations
+abbrev pub StatesNothing : NamedAlgebra → List ℕ → Type 0
+StatesNothing c bytes = (net : Network) → SourceNetwork bytes c (Ok net) →
+    net.words ≡ replicate (edge_count net.nodes) (full_of c.algebra)
+
+-- facts of polygons alone never conflict: with polygons, a network that states nothing is never answered no
+abbrev pub PolygonsAgree : Type 0
+PolygonsAgree = (asked : SolveAsked) (documents : Documents) (bytes text : List ℕ) (status : Status) →
+    asked.calculus ≡ codes "rcc8" → StatesNothing rcc8_calculus bytes →
+    Output (Some (solve asked)) documents bytes text status → status ≢ No

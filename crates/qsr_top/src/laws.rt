@@ -1,4 +1,4 @@
-ghost use Rattle.qsr_top.specs.Laws.{OutputIsOne, OutputIsThere, WordsFit};
+ghost use Rattle.qsr_top.specs.Laws.{OutputIsOne, OutputIsThere, WordsFit, PolygonsAgree};
 
 /// For what words ask for, documents and the bytes of a source one text and one status are permitted: one at most,
 /// and one at least where the documents that the words name are there, the class and the polygons fit the calculus,
@@ -7,4 +7,10 @@ pub fn output_is_one()
     ensures one { OutputIsOne }
     ensures there { OutputIsThere }
     ensures words { WordsFit }
+{}
+
+/// Facts of polygons alone never conflict: over RCC-8, where the network of the source states nothing, `solve` never
+/// answers no, whatever polygons are asked for.
+pub fn polygons_agree()
+    ensures { PolygonsAgree }
 {}

@@ -9,6 +9,6 @@
 mod laws;
 mod running;
 
-pub use laws::output_is_one;
+pub use laws::{output_is_one, polygons_agree};
 pub use qsr_inputs::{Place, Status};
 pub use running::run;
