@@ -143,6 +143,7 @@ impl Desk {
         requires desk { IsDesk (C.algebra c.now) nodes self.old }
         requires closed { IsClosedNetwork (C.algebra c.now) nodes closed.now }
         ensures desk { IsDesk (C.algebra c.now) nodes self.new }
+        ensures number { self.new.number ≡ self.old.number }
         ensures slice { self.new.slice ≡ self.old.slice }
         ensures settled { self.new.is_settled ≡ true }
     {

@@ -4,14 +4,16 @@ use Rattle.std.specs.List.{range_with_len}
 use Rattle.network_words.specs.declared.TheConstants.{MAX_NODES}
 use Rattle.compose_fast.specs.Nibbles.{byte}
 
--- what contracts see of the work: the nodes, the number of planes that the sets are kept in, the set of the pair (i, j) at
--- 256 i + j, at the place of each pair i < j whether its edge is queued, and how many more narrowings can be noted
+-- what contracts see of the work: the nodes, the number of planes that the sets are kept in, the set of the pair (i, j)
+-- at 256 i + j, at the place of each pair i < j whether its edge is queued, how many more narrowings can be noted, and
+-- how many in all
 pub record Worklist : Type 0 where
   pub nodes : ℕ
   pub planes : ℕ
   pub sets : List ℕ
   pub queued : List Bool
   pub room : ℕ
+  pub notes : ℕ
 
 -- the set whose bytes, of so many, stand 256 places apart, the first one at this place
 unfoldable pub set_of_bytes : List ℕ → ℕ → ℕ → ℕ
@@ -23,8 +25,15 @@ unfoldable pub sets_in : List ℕ → ℕ → ℕ → List ℕ
 sets_in bytes planes n = map (λ e. set_of_bytes bytes planes (256 * (planes * (e / 256)) + e % 256)) (range_with_len 0 (256 * n))
 
 -- the work whose sets lie in such rows
-abbrev pub worklist_in : ℕ → ℕ → List ℕ → List Bool → ℕ → Worklist
-worklist_in n planes bytes queued room = record { nodes = n; planes = planes; sets = sets_in bytes planes n; queued = queued; room = room }
+abbrev pub worklist_in : ℕ → ℕ → List ℕ → List Bool → ℕ → ℕ → Worklist
+worklist_in n planes bytes queued room notes = record {
+  nodes = n;
+  planes = planes;
+  sets = sets_in bytes planes n;
+  queued = queued;
+  room = room;
+  notes = notes;
+}
 
 -- the set of the pair (i, j)
 abbrev pub set_of : Worklist → ℕ → ℕ → ℕ

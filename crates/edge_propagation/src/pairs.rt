@@ -45,14 +45,14 @@ impl Model for PairSets {
     ghost Value = { Worklist };
 
     ghost view = { λ a. worklist_in a.nodes a.planes a.bytes.items a.queued.items
-        (length a.notes.items - a.noted) };
+        (length a.notes.items - a.noted) (length a.notes.items) };
 
     ghost invariant = { λ a.
-        IsSized (worklist_in a.nodes a.planes a.bytes.items a.queued.items 0)
-        × AreBytesOf (worklist_in a.nodes a.planes a.bytes.items a.queued.items 0) a.bytes.items
+        IsSized (worklist_in a.nodes a.planes a.bytes.items a.queued.items 0 0)
+        × AreBytesOf (worklist_in a.nodes a.planes a.bytes.items a.queued.items 0 0) a.bytes.items
         × (a.waiting ≡ count_by (λ b. b) a.queued.items)
         × (2048 * a.nodes ≤ vec_capacity a.bytes)
-        × AreEdgeMarks (worklist_in a.nodes a.planes a.bytes.items a.queued.items 0) };
+        × AreEdgeMarks (worklist_in a.nodes a.planes a.bytes.items a.queued.items 0 0) };
 }
 
 /// The place of the first byte of the set of `(i, k)` in `P` planes.
@@ -126,7 +126,7 @@ impl PairSets {
 
     /// Makes room for so many blocks of 256 notes, and forgets what was noted.
     pub fn make_notes(&mut self, alloc: Global, blocks: usize) -> Result<(), Memory>
-        ensures room { OnOk result (self.new ≡ record self.old { room = 256 * blocks }) }
+        ensures room { OnOk result (self.new ≡ record self.old { room = 256 * blocks; notes = 256 * blocks }) }
         ensures same { OnErr result (self.new ≡ self.old) }
     {
         self.notes = filled(alloc, Note { i: 0, j: 0, k: 0 }, blocks)?;
@@ -154,9 +154,10 @@ impl PairSets {
         self.notes.split_at(self.noted.min(self.notes.len())).0
     }
 
-    /// Forgets what was noted.
+    /// Forgets what was noted, so that all of the room is there again.
     pub fn forget_notes(&mut self)
         ensures rest { self.new ≡ record self.old { room = self.new.room } }
+        ensures forgotten { self.new.room ≡ self.old.notes }
         ensures room { self.old.room ≤ self.new.room }
     {
         self.noted = 0;

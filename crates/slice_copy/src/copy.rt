@@ -338,6 +338,7 @@ impl SliceCopy {
     pub fn forget_notes(&mut self)
         ensures rest { self.new ≡
             record self.old { work = record self.old.work { room = self.new.work.room } } }
+        ensures forgotten { self.new.work.room ≡ self.old.work.notes }
         ensures room { self.old.work.room ≤ self.new.work.room }
         ensures copy { (m : Algebra) → IsOpenCopy m self.old → TakesOver m self.old self.new }
     {

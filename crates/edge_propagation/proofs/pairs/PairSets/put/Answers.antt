@@ -13,7 +13,7 @@ invariant_of-self g c =
     let new = c.put_set.new.bytes in
     let was = c.deref_mut.result.now in
     let p = c.put_set.ensures in
-    let work = worklist_in inside.nodes inside.planes bytes inside.queued.items 0 in
+    let work = worklist_in inside.nodes inside.planes bytes inside.queued.items 0 0 in
     let ib : c.args.i < inside.nodes = rw (← c.self.view_is) at c.requires.first in
     let jb : c.args.j < inside.nodes = rw (← c.self.view_is) at c.requires.second in
     let known : inside.planes ≡ g.row.P = rw (← c.self.view_is) at c.requires.planes in
@@ -34,8 +34,12 @@ returns-clause-value g c =
     let bytes = inside.bytes.items in
     let new = c.put_set.new.bytes in
     let p = c.put_set.ensures in
-    let work = worklist_in inside.nodes inside.planes bytes inside.queued.items (length inside.notes.items - inside.noted) in
+    let notes = length inside.notes.items in
+    let work = worklist_in inside.nodes inside.planes bytes inside.queued.items (notes - inside.noted) notes in
     let whole : take inside.bytes.len (new ++ drop (length new) bytes) ≡ new = grind (arith, common_steps) in
-    let sets = sets_in-put (worklist_in inside.nodes inside.planes bytes inside.queued.items 0) bytes c.deref_mut.result.now new g.row.P c.args.i c.args.j c.args.rel c.byte_place.result c.self.invariant.0 (rw (← c.self.view_is) at c.requires.first) (rw (← c.self.view_is) at c.requires.second)
-    (rw (← c.self.view_is) at c.requires.planes) c.deref_mut.ensures.value c.byte_place.ensures p.here p.elsewhere c.requires.fits in
+    let sets = sets_in-put (worklist_in inside.nodes inside.planes bytes inside.queued.items 0 0) bytes
+    c.deref_mut.result.now new g.row.P c.args.i c.args.j c.args.rel c.byte_place.result c.self.invariant.0
+    (rw (← c.self.view_is) at c.requires.first) (rw (← c.self.view_is) at c.requires.second)
+    (rw (← c.self.view_is) at c.requires.planes) c.deref_mut.ensures.value c.byte_place.ensures p.here p.elsewhere
+    c.requires.fits in
     rw (← c.self.view_is) (ap (λ (s : List ℕ). record work { sets = s }) (ap (λ xs. sets_in xs inside.planes inside.nodes) whole ∙ sets))
