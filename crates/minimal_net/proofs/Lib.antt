@@ -1,0 +1,5 @@
+mod SetEdges
+mod Labels
+mod Closures
+mod Labelled
+mod Straight
