@@ -3,7 +3,7 @@ use Rattle.std.proofs.Common.{◌≡◌, ℕ, ◌+◌, ◌<◌, ◌≤◌, List,
 use Rattle.calculus_table.specs.Algebra.{Algebra}
 use Rattle.calculus_table.specs.Calculus.{IsCalculus, EachBase}
 use Rattle.network_words.specs.Edge.{edge_count}
-use Rattle.network_words.specs.Network.{IsNetwork}
+use Rattle.network_words.specs.Network.{Network, IsNetwork}
 use Rattle.network_words.specs.Closure.{IsClosure}
 use Rattle.tract_classes.specs.Class.{HasBase}
 use Rattle.refutation.proofs.NoScenarios.{refuted-none}
@@ -16,12 +16,13 @@ use Rattle.split_search.proofs.SomeVerdict.{verdict_exists}
 use Rattle.split_search.proofs.Products.{budget_suffices}
 use Rattle.split_search.proofs.Refuted.{no_refutation}
 use Rattle.split_search.proofs.Truths.{verdict-true}
+use Rattle.minimal_net.specs.declared.label.Label.{Label}
 use Rattle.minimal_net.specs.declared.label.Label.TheVariants.{Held}
 use Rattle.minimal_net.specs.Labels.{set_to, label_of, HasAt, IsTrueOf}
 use Rattle.minimal_net.specs.Laws.{LabelIsOne, LabelExists, LabelIsTrue, SeenIsHeld}
 use Rattle.minimal_net.proofs.SetEdges.{set_to-network, from-set, to-set}
 
-pub label-true : (m : Algebra) (n : ℕ) (words : List ℕ) (e base budget : ℕ) → IsCalculus m → IsNetwork m n words →
+label-true : (m : Algebra) (n : ℕ) (words : List ℕ) (e base budget : ℕ) → IsCalculus m → IsNetwork m n words →
     e < edge_count n → (v : Verdict) → verdicts.IsTrueOf m n (set_to words e base) budget v →
     IsTrueOf m n words e base budget (label_of v)
 label-true m n words e base budget calculus net below (Yes relations nodes) is =
@@ -34,6 +35,23 @@ label-true m n words e base budget calculus net below (No nodes) is = (
       (to-set m n words e base relations net below h),
 )
 label-true m n words e base budget calculus net below (Budget nodes) is = is
+
+-- the network that is searched, as a whole
+pub IsNetwork-set : (m : Algebra) (net made : Network) (e base : ℕ) →
+    made ≡ record net { words = set_to net.words e base } → IsNetwork m net.nodes net.words → e < edge_count net.nodes →
+    IsNetwork m made.nodes made.words
+IsNetwork-set m net made e base is network below =
+    subst (λ (x : Network). IsNetwork m x.nodes x.words) (sym is)
+    (set_to-network m net.nodes net.words e base network below)
+
+pub IsTrueOf-set : (m : Algebra) (net made : Network) (e base budget : ℕ) (v : Verdict) (label : Label) →
+    made ≡ record net { words = set_to net.words e base } → label ≡ label_of v → IsCalculus m →
+    IsNetwork m net.nodes net.words → e < edge_count net.nodes →
+    verdicts.IsTrueOf m made.nodes made.words budget v → IsTrueOf m net.nodes net.words e base budget label
+IsTrueOf-set m net made e base budget v label is of calculus network below truth =
+    subst (IsTrueOf m net.nodes net.words e base budget) (sym of)
+    (label-true m net.nodes net.words e base budget calculus network below v
+    (subst (λ (x : Network). verdicts.IsTrueOf m x.nodes x.words budget v) is truth))
 
 pub label_one : LabelIsOne
 label_one m n class budget words e base k l a b =

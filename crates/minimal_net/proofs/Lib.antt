@@ -2,4 +2,9 @@ mod SetEdges
 mod Labels
 mod Closures
 mod Labelled
+mod Least
 mod Straight
+mod ClassClosures
+mod Severals
+mod FirstSingles
+mod EarlyEnds

@@ -21,7 +21,7 @@ pub set_to-here : (words : List ℕ) (e base : ℕ) → e < length words →
     slice_index (set_to words e base) e ≡ met words e base
 set_to-here words e base below = get_or-set_same words e (met words e base) 0 below
 
-set_to-other : (words : List ℕ) (e base d : ℕ) → d ≢ e → slice_index (set_to words e base) d ≡ slice_index words d
+pub set_to-other : (words : List ℕ) (e base d : ℕ) → d ≢ e → slice_index (set_to words e base) d ≡ slice_index words d
 set_to-other words e base d other = get_or-set_other words e d (met words e base) 0 other
 
 pub set_to-refines : (words : List ℕ) (e base : ℕ) → e < length words → Refines (set_to words e base) words

@@ -1,19 +1,21 @@
 -- What holds of labels, and over straight classes.
-use Rattle.std.specs.Prelude.{◌≡◌, ℕ, ◌+◌, ◌<◌, ◌≤◌, ◌↔◌, List, All, Contains}
+use Rattle.std.specs.Prelude.{◌≡◌, ℕ, ◌+◌, ◌<◌, ◌≤◌, ◌↔◌, List, length, All, Contains}
 use Rattle.calculus_table.specs.Algebra.{Algebra}
 use Rattle.calculus_table.specs.Calculus.{IsCalculus, EachBase}
 use Rattle.network_words.specs.Edge.{edge_count}
 use Rattle.network_words.specs.Network.{IsNetwork}
 use Rattle.network_words.specs.Closure.{IsClosure}
 use Rattle.network_words.specs.Scenario.{IsScenario}
-use Rattle.tract_classes.specs.Class.{IsClass, HasBase}
+use Rattle.tract_classes.specs.Class.{IsClass, HasBase, IsClosedClass}
+use Rattle.split_trees.specs.Tree.{TreeNode, NestedTree}
 use Rattle.split_search.specs.declared.verdict.Verdict.{Verdict}
-use Rattle.split_search.specs.Ruled.{IsVerdict, product}
+use Rattle.split_search.specs.declared.verdict.Verdict.TheVariants.{Yes}
+use Rattle.split_search.specs.Ruled.{IsVerdict, product, at_scenario, Ends, splits}
 use Rattle.minimal_net.specs.declared.label.Label.{Label}
 use Rattle.minimal_net.specs.declared.label.Label.TheVariants.{Held}
 use Rattle.minimal_net.specs.Labels.{set_to, IsLabel, HasAt, IsTrueOf}
 use Rattle.minimal_net.specs.Minimal.{IsLabelled, HasNoOpen, IsMinimal}
-use Rattle.minimal_net.specs.Straight.{AreLeast, IsStraight, IsClosedOver}
+use Rattle.minimal_net.specs.Straight.{AreLeast, IsStraight, IsClosedOver, several_count}
 
 -- ---- labels
 
@@ -76,6 +78,18 @@ LabelledIsMinimal =
 
 -- ---- straight classes
 
+-- a network without an empty set has least base relations
+abbrev pub LeastExist : Type 0
+LeastExist =
+    (n : ℕ) (words : List ℕ) → length words ≡ edge_count n → ¬ Contains words 0 →
+    (relations : List ℕ) × AreLeast n words relations
+
+-- and one list of them at most
+abbrev pub LeastAreOne : Type 0
+LeastAreOne =
+    (n : ℕ) (words relations others : List ℕ) → AreLeast n words relations → AreLeast n words others →
+    relations ≡ others
+
 -- the least base relations of a closed network over a straight class are a scenario
 abbrev pub LeastAreScenario : Type 0
 LeastAreScenario =
@@ -88,3 +102,28 @@ StraightHasAt =
     (m : Algebra) (n : ℕ) (class words : List ℕ) (e base : ℕ) (closure relations : List ℕ) → IsStraight m class →
     IsNetwork m n words → e < edge_count n → IsClosure m n (set_to words e base) closure →
     All (Contains class) closure → AreLeast n closure relations → HasAt m n words e base relations
+
+-- over a straight class that is closed, the ruled tree of a closed network ends at its least base relations, with as
+-- many splits at most as the network has edges with several base relations
+abbrev pub StraightTreeEnds : Type 0
+StraightTreeEnds =
+    (m : Algebra) (n : ℕ) (class words relations : List ℕ) → IsCalculus m → IsClosedClass m class →
+    IsStraight m class → IsClosedOver m n class words → AreLeast n words relations →
+    (tree : NestedTree) × Ends m n class (at_scenario relations) words tree × (splits tree ≤ several_count words)
+
+-- so with as large a budget a network whose closure is over the class is a yes with these
+abbrev pub StraightIsYes : Type 0
+StraightIsYes =
+    (m : Algebra) (n : ℕ) (class : List ℕ) (budget : ℕ) (words closure relations : List ℕ) (v : Verdict) →
+    IsCalculus m → IsClosedClass m class → IsStraight m class → IsNetwork m n words → IsClosure m n words closure →
+    All (Contains class) closure → AreLeast n closure relations → several_count closure ≤ budget →
+    IsVerdict m n class budget words v → (nodes : List TreeNode) × (v ≡ Yes relations nodes)
+
+-- and a label by such a network is held with these
+abbrev pub StraightIsHeld : Type 0
+StraightIsHeld =
+    (m : Algebra) (n : ℕ) (class : List ℕ) (budget : ℕ) (words : List ℕ) (e base : ℕ) (closure relations : List ℕ)
+    (label : Label) → IsCalculus m → IsClosedClass m class → IsStraight m class → IsNetwork m n words →
+    e < edge_count n → IsClosure m n (set_to words e base) closure → All (Contains class) closure →
+    AreLeast n closure relations → several_count closure ≤ budget → IsLabel m n class budget words e base label →
+    label ≡ Held relations
