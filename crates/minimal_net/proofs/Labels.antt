@@ -1,5 +1,5 @@
 -- A base relation has one label at an edge, and what it says is so.
-use Rattle.std.proofs.Common.{◌≡◌, ℕ, ◌+◌, ◌<◌, ◌≤◌, List, refl, sym, ap, ◌∙◌, subst}
+use Rattle.std.proofs.Common.{◌≡◌, ℕ, ◌+◌, ◌<◌, ◌≤◌, List, [], refl, sym, ap, ◌∙◌, subst, arith}
 use Rattle.calculus_table.specs.Algebra.{Algebra}
 use Rattle.calculus_table.specs.Calculus.{IsCalculus, EachBase}
 use Rattle.network_words.specs.Edge.{edge_count}
@@ -11,6 +11,7 @@ use Rattle.split_search.specs.declared.verdict.Verdict.{Verdict}
 use Rattle.split_search.specs.declared.verdict.Verdict.TheVariants.{Yes, No, Budget}
 use Rattle.split_search.specs.Ruled.{IsVerdict, product}
 use Rattle.split_search.specs.Verdicts as verdicts
+use Rattle.split_search.specs.Verdicts.{AreSearched}
 use Rattle.split_search.proofs.OneVerdict.{verdict_one}
 use Rattle.split_search.proofs.SomeVerdict.{verdict_exists}
 use Rattle.split_search.proofs.Products.{budget_suffices}
@@ -18,7 +19,7 @@ use Rattle.split_search.proofs.Refuted.{no_refutation}
 use Rattle.split_search.proofs.Truths.{verdict-true}
 use Rattle.minimal_net.specs.declared.label.Label.{Label}
 use Rattle.minimal_net.specs.declared.label.Label.TheVariants.{Held}
-use Rattle.minimal_net.specs.Labels.{set_to, label_of, HasAt, IsTrueOf}
+use Rattle.minimal_net.specs.Labels.{set_to, label_of, HasAt, IsTrueOf, nodes_of}
 use Rattle.minimal_net.specs.Laws.{LabelIsOne, LabelExists, LabelIsTrue, SeenIsHeld}
 use Rattle.minimal_net.proofs.SetEdges.{set_to-network, from-set, to-set}
 
@@ -52,6 +53,24 @@ IsTrueOf-set m net made e base budget v label is of calculus network below truth
     subst (IsTrueOf m net.nodes net.words e base budget) (sym of)
     (label-true m net.nodes net.words e base budget calculus network below v
     (subst (λ (x : Network). verdicts.IsTrueOf m x.nodes x.words budget v) is truth))
+
+pub AreSearched-label : (budget : ℕ) (v : Verdict) (label : Label) → label ≡ label_of v →
+    AreSearched budget (verdicts.nodes_of v) → AreSearched budget (nodes_of label)
+AreSearched-label budget v label is h = subst (λ l. AreSearched budget (nodes_of l)) (sym is) (searched v h)
+  where
+    none : AreSearched budget []
+    none = record {
+      sweeps = λ k d below. absurd (omega arith);
+      steps = λ k d below. absurd (omega arith);
+      leaves = refl;
+      few = omega arith;
+      short = omega arith;
+    }
+
+    searched : (w : Verdict) → AreSearched budget (verdicts.nodes_of w) → AreSearched budget (nodes_of (label_of w))
+    searched (Yes relations nodes) h = none
+    searched (No nodes) h = h
+    searched (Budget nodes) h = h
 
 pub label_one : LabelIsOne
 label_one m n class budget words e base k l a b =

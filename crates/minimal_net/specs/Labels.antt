@@ -1,9 +1,9 @@
 -- Labels: what the ruled tree says of a network in which the set of an edge is met with one base relation.
-use Rattle.std.specs.Prelude.{◌≡◌, ℕ, ◌+◌, ◌^◌, ◌<◌, ◌≤◌, List, slice_index, count_by}
+use Rattle.std.specs.Prelude.{◌≡◌, ℕ, ◌+◌, ◌^◌, ◌<◌, ◌≤◌, List, [], slice_index, count_by}
 use Rattle.calculus_table.specs.Algebra.{Algebra}
 use Rattle.network_words.specs.Closure.{IsClosure}
 use Rattle.network_words.specs.Scenario.{IsScenario}
-use Rattle.split_trees.specs.Tree.{is_split}
+use Rattle.split_trees.specs.Tree.{TreeNode, is_split}
 use Rattle.split_trees.specs.Refutes.{met_at, IsRefutation}
 use Rattle.split_search.specs.declared.verdict.Verdict.{Verdict}
 use Rattle.split_search.specs.declared.verdict.Verdict.TheVariants.{Yes, No}
@@ -47,6 +47,12 @@ IsTrueOf m n words e base budget (Refuted nodes) =
     IsRefutation m n (set_to words e base) nodes × IsInNone m n words e base
 IsTrueOf m n words e base budget (Budget nodes) =
     (closure : List ℕ) → IsClosure m n (set_to words e base) closure → budget + 1 < product closure
+
+-- the nodes of a label's tree; a held one has none
+abbrev pub nodes_of : Label → List TreeNode
+nodes_of (Held relations) = []
+nodes_of (Refuted nodes) = nodes
+nodes_of (Budget nodes) = nodes
 
 -- the tree has as many splits as the budget at most, and just as many where it was spent
 abbrev pub KeepsBudget : ℕ → Label → Type 0

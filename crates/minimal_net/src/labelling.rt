@@ -10,8 +10,9 @@ ghost use Rattle.calculus_table.specs.Calculus.{EachBase};
 ghost use Rattle.network_words.specs.Edge.{edge_count};
 ghost use Rattle.network_words.specs.Network.{IsNetwork};
 ghost use Rattle.split_search.specs.declared.TheConstants.{MAX_BUDGET};
+ghost use Rattle.split_search.specs.Verdicts.{AreSearched};
 ghost use Rattle.tract_classes.specs.Class.{HasBase};
-ghost use Rattle.minimal_net.specs.Labels.{set_to, label_of, IsLabel, IsTrueOf, KeepsBudget};
+ghost use Rattle.minimal_net.specs.Labels.{set_to, label_of, IsLabel, IsTrueOf, KeepsBudget, nodes_of};
 
 use crate::label::Label;
 use calculus_table::{Compose, Memory, Rel, lawful};
@@ -45,6 +46,7 @@ pub fn minimal<C: Compose>(
     ensures is_true { IfOk result
         (IsTrueOf (C.algebra c.now) net.now.nodes net.now.words edge base budget) }
     ensures splits { IfOk result (KeepsBudget budget) }
+    ensures nodes { IfOk result (λ label. AreSearched budget (nodes_of label)) }
 {
     lawful(c);
     let met = set_to(net, edge, base)?;
