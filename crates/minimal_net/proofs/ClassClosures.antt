@@ -10,8 +10,8 @@ use Rattle.calculus_table.specs.Rel.{IsWithin}
 use Rattle.calculus_table.specs.Algebra.{Algebra}
 use Rattle.calculus_table.specs.Composition.{composition}
 use Rattle.calculus_table.specs.Calculus.{IsCalculus}
-use Rattle.calculus_table.proofs.Sets.{IsWithin-refl, IsWithin-trans, IsWithin-empty}
-use Rattle.calculus_table.proofs.Sets.{IsWithin-meet, IsWithin-meet_l, IsWithin-meet_r, meet-within, within-meet}
+use Rattle.calculus_table.proofs.Sets.{IsWithin-refl, IsWithin-trans, IsWithin-empty, IsWithin-meet, IsWithin-meet_l}
+use Rattle.calculus_table.proofs.Sets.{IsWithin-meet_r, meet-within, within-meet}
 use Rattle.calculus_table.proofs.Compositions.{composition-mono}
 use Rattle.network_words.specs.Edge.{edge_at}
 use Rattle.network_words.specs.Network.{IsNetwork, Refines, relation_between}

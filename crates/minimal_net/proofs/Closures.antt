@@ -13,7 +13,7 @@ use Rattle.split_search.specs.declared.verdict.Verdict.TheVariants.{Yes, No, Bud
 use Rattle.split_search.specs.Ruled.{HasTree}
 use Rattle.minimal_net.specs.Labels.{set_to}
 use Rattle.minimal_net.specs.Laws.{SameClosureSameVerdict, ClosureSetTo}
-use Rattle.minimal_net.proofs.SetEdges.{met, set_to-here, set_to-refines, set_to-keeps, network-edge}
+use Rattle.minimal_net.proofs.SetEdges.{meet_at, set_to-here, set_to-refines, set_to-keeps, network-edge}
 
 same-tree : (m : Algebra) (n : ℕ) (words others closure : List ℕ) (nodes : List TreeNode)
     (P : List ℕ → NestedTree → Type 0) → IsClosure m n words closure → IsClosure m n others closure →
@@ -42,7 +42,7 @@ closed-set_to m n words closure e base other is below same closed within =
     let all : Refines other words =
     Refines-trans other (set_to words e base) words within (set_to-refines words e base below) in
     let here : IsWithin (slice_index other e) (2 ^ base) =
-    IsWithin-trans (slice_index other e) (met words e base) (2 ^ base)
+    IsWithin-trans (slice_index other e) (meet_at words e base) (2 ^ base)
     (subst (IsWithin (slice_index other e)) (set_to-here words e base below) (within.each e))
     (IsWithin-meet_r (slice_index words e) (2 ^ base)) in
     set_to-keeps closure other e base (subst (λ k. e < k) (sym is.length_is) below)
@@ -61,9 +61,9 @@ pub closure_set_to : ClosureSetTo
 closure_set_to m n words closure e base made is below net =
     let own : e < length words = network-edge m n words e net below in
     let mono = set_to-mono m n words closure e base is own in
-    let longs : length (set_to words e base) ≡ length words = length-set words e (met words e base) in
+    let longs : length (set_to words e base) ≡ length words = length-set words e (meet_at words e base) in
     let same : length (set_to closure e base) ≡ length words =
-    length-set closure e (met closure e base) ∙ is.length_is in (
+    length-set closure e (meet_at closure e base) ∙ is.length_is in (
       (λ c. record {
         length_is = c.length_is ∙ same ∙ sym longs;
         closed = c.closed;

@@ -1,8 +1,7 @@
 -- Over a straight class that is closed, the ruled tree of a closed network goes down by the least base relation of the
 -- first edge that has several, each time to a network with the same least base relations, and ends at these.
 use Rattle.std.proofs.Common.{◌≡◌, ℕ, zero, suc, ◌+◌, ◌^◌, ◌<◌, ◌≤◌, List, [], ◌∷◌, length, refl, sym, ap, ◌∙◌, subst}
-use Rattle.std.proofs.Common.{arith}
-use Rattle.std.proofs.Common.{inl, inr}
+use Rattle.std.proofs.Common.{arith, inl, inr}
 use Rattle.std.specs.Prelude.{All, Contains, count_ones, slice_index, slice_set}
 use Rattle.std.proofs.lemmas.Bool.{cases_eq}
 use Rattle.std.proofs.lemmas.Nat.{and_comm}
@@ -36,8 +35,8 @@ use Rattle.split_search.proofs.OneVerdict.{verdict_one, later-splits}
 use Rattle.minimal_net.specs.Labels.{set_to, label_of, HasAt}
 use Rattle.minimal_net.specs.Straight.{AreLeast, IsStraight, IsClosedOver, several_count}
 use Rattle.minimal_net.specs.Laws.{StraightTreeEnds, StraightIsYes, StraightIsHeld}
-use Rattle.minimal_net.proofs.SetEdges.{met, set_to-here, set_to-other, set_to-refines, set_to-network, network-edge}
-use Rattle.minimal_net.proofs.SetEdges.{to-set}
+use Rattle.minimal_net.proofs.SetEdges.{meet_at, set_to-here, set_to-other, set_to-refines, set_to-network}
+use Rattle.minimal_net.proofs.SetEdges.{network-edge, IsScenario-set_to}
 use Rattle.minimal_net.proofs.Straight.{least_scenario}
 use Rattle.minimal_net.proofs.ClassClosures.{closure-over}
 use Rattle.minimal_net.proofs.Severals.{several_count-less, first_several}
@@ -59,13 +58,13 @@ later_of-later [] = tt
 later_of-later (p ∷ parts) = (refl, later_of-later parts)
 
 -- an edge set to a base relation that its set has
-met-single : (words : List ℕ) (e r : ℕ) → Has (slice_index words e) r → met words e r ≡ 2 ^ r
-met-single words e r has =
+meet_at-single : (words : List ℕ) (e r : ℕ) → Has (slice_index words e) r → meet_at words e r ≡ 2 ^ r
+meet_at-single words e r has =
     let a = slice_index words e in
     and_comm a (2 ^ r) ∙ meet-within (2 ^ r) a (single-within r a has)
 
 set_to-part : (words : List ℕ) (e r : ℕ) → Has (slice_index words e) r → set_to words e r ≡ slice_set words e (2 ^ r)
-set_to-part words e r has = ap (slice_set words e) (met-single words e r has)
+set_to-part words e r has = ap (slice_set words e) (meet_at-single words e r has)
 
 module _ (m : Algebra) (n : ℕ) (class : List ℕ) (calculus : IsCalculus m) (own : IsClosedClass m class)
     (straight : IsStraight m class) (relations : List ℕ) where
@@ -98,9 +97,9 @@ module _ (m : Algebra) (n : ℕ) (class : List ℕ) (calculus : IsCalculus m) (o
       let r = slice_index relations e in
       let set = set_to words e r in
       let at : e < length words = network-edge m n words e f.over.is_network below in
-      let same : length set ≡ length words = length-set words e (met words e r) in
+      let same : length set ≡ length words = length-set words e (meet_at words e r) in
       let here : slice_index set e ≡ 2 ^ r =
-      set_to-here words e r at ∙ met-single words e r (f.least.each e below).here in
+      set_to-here words e r at ∙ meet_at-single words e r (f.least.each e below).here in
       let base : Contains class (2 ^ r) = own.bases r ((fit-scenario words f).below e below) in
       All-from_get_or (Contains class) set 0 (λ d l. elim (cases_eq d e) [
         | inl there ↦
@@ -124,7 +123,7 @@ module _ (m : Algebra) (n : ℕ) (class : List ℕ) (calculus : IsCalculus m) (o
   child-single words closure e f below within =
       let r = slice_index relations e in
       let at : e < length words = network-edge m n words e f.over.is_network below in
-      let here = set_to-here words e r at ∙ met-single words e r (f.least.each e below).here in
+      let here = set_to-here words e r at ∙ meet_at-single words e r (f.least.each e below).here in
       omega (
         arith,
         count-le (slice_index closure e) (2 ^ r) (subst (IsWithin (slice_index closure e)) here (within.each e)),
@@ -140,11 +139,12 @@ module _ (m : Algebra) (n : ℕ) (class : List ℕ) (calculus : IsCalculus m) (o
       let net : IsNetwork m n set = set_to-network m n words e r f.over.is_network below in
       let found = closure_of m n set calculus net in
       let closure = found.0 in
-      let same : length closure ≡ length words = found.1.length_is ∙ length-set words e (met words e r) in
+      let same : length closure ≡ length words = found.1.length_is ∙ length-set words e (meet_at words e r) in
       let within : Refines closure words =
       Refines-trans closure set words found.1.within (set_to-refines words e r at) in
       let there : HasAt m n words e r relations = record { scenario = fit-scenario words f; here = refl } in
-      let scenario : IsScenario m n set relations = to-set m n words e r relations f.over.is_network below there in
+      let scenario : IsScenario m n set relations =
+      IsScenario-set_to m n words e r relations f.over.is_network below there in
       let kept : IsScenario m n closure relations =
       (IsScenario-closure m n set closure relations calculus net found.1).0 scenario in (
         closure,

@@ -21,21 +21,21 @@ use Rattle.minimal_net.specs.declared.label.Label.{Label}
 use Rattle.minimal_net.specs.declared.label.Label.TheVariants.{Held}
 use Rattle.minimal_net.specs.Labels.{set_to, label_of, HasAt, IsTrueOf, nodes_of}
 use Rattle.minimal_net.specs.Laws.{LabelIsOne, LabelExists, LabelIsTrue, SeenIsHeld}
-use Rattle.minimal_net.proofs.SetEdges.{set_to-network, from-set, to-set}
+use Rattle.minimal_net.proofs.SetEdges.{set_to-network, HasAt-from_set, IsScenario-set_to}
 
-label-true : (m : Algebra) (n : ℕ) (words : List ℕ) (e base budget : ℕ) → IsCalculus m → IsNetwork m n words →
+IsTrueOf-label_of : (m : Algebra) (n : ℕ) (words : List ℕ) (e base budget : ℕ) → IsCalculus m → IsNetwork m n words →
     e < edge_count n → (v : Verdict) → verdicts.IsTrueOf m n (set_to words e base) budget v →
     IsTrueOf m n words e base budget (label_of v)
-label-true m n words e base budget calculus net below (Yes relations nodes) is =
-    from-set m n words e base relations net below is
-label-true m n words e base budget calculus net below (No nodes) is = (
+IsTrueOf-label_of m n words e base budget calculus net below (Yes relations nodes) is =
+    HasAt-from_set m n words e base relations net below is
+IsTrueOf-label_of m n words e base budget calculus net below (No nodes) is = (
   is,
   λ relations h.
       let own = set_to-network m n words e base net below in
       refuted-none m n (set_to words e base) nodes relations calculus own is
-      (to-set m n words e base relations net below h),
+      (IsScenario-set_to m n words e base relations net below h),
 )
-label-true m n words e base budget calculus net below (Budget nodes) is = is
+IsTrueOf-label_of m n words e base budget calculus net below (Budget nodes) is = is
 
 -- the network that is searched, as a whole
 pub IsNetwork-set : (m : Algebra) (net made : Network) (e base : ℕ) →
@@ -51,7 +51,7 @@ pub IsTrueOf-set : (m : Algebra) (net made : Network) (e base budget : ℕ) (v :
     verdicts.IsTrueOf m made.nodes made.words budget v → IsTrueOf m net.nodes net.words e base budget label
 IsTrueOf-set m net made e base budget v label is of calculus network below truth =
     subst (IsTrueOf m net.nodes net.words e base budget) (sym of)
-    (label-true m net.nodes net.words e base budget calculus network below v
+    (IsTrueOf-label_of m net.nodes net.words e base budget calculus network below v
     (subst (λ (x : Network). verdicts.IsTrueOf m x.nodes x.words budget v) is truth))
 
 pub AreSearched-label : (budget : ℕ) (v : Verdict) (label : Label) → label ≡ label_of v →
@@ -87,7 +87,7 @@ pub label_true : LabelIsTrue
 label_true m n class budget words e base label calculus net bases below l =
     let own = set_to-network m n words e base net below in
     subst (IsTrueOf m n words e base budget) (sym l.is)
-    (label-true m n words e base budget calculus net below l.verdict
+    (IsTrueOf-label_of m n words e base budget calculus net below l.verdict
     (verdict-true m n class budget (set_to words e base) calculus own bases l.verdict l.is_verdict))
 
 -- ---- a base relation that some scenario has there
@@ -102,7 +102,7 @@ seen-held m n class budget words e base relations closure calculus net bases bel
     let own = set_to-network m n words e base net below in
     let refutes = no_refutation m n class budget (set_to words e base) nodes calculus own bases v in
     absurd (refuted-none m n (set_to words e base) nodes relations calculus own refutes
-    (to-set m n words e base relations net below h))
+    (IsScenario-set_to m n words e base relations net below h))
 seen-held m n class budget words e base relations closure calculus net bases below h is few (Budget nodes) v =
     let own = set_to-network m n words e base net below in
     absurd (budget_suffices m n class budget (set_to words e base) closure nodes calculus own bases is few v)

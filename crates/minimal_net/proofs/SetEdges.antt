@@ -14,19 +14,19 @@ use Rattle.split_search.proofs.Networks.{set-refines, set-network}
 use Rattle.minimal_net.specs.Labels.{set_to, HasAt}
 
 -- the set of the edge, met with the base relation
-abbrev pub met : List ℕ → ℕ → ℕ → ℕ
-met words e base = bit_and (slice_index words e) (2 ^ base)
+abbrev pub meet_at : List ℕ → ℕ → ℕ → ℕ
+meet_at words e base = bit_and (slice_index words e) (2 ^ base)
 
 pub set_to-here : (words : List ℕ) (e base : ℕ) → e < length words →
-    slice_index (set_to words e base) e ≡ met words e base
-set_to-here words e base below = get_or-set_same words e (met words e base) 0 below
+    slice_index (set_to words e base) e ≡ meet_at words e base
+set_to-here words e base below = get_or-set_same words e (meet_at words e base) 0 below
 
 pub set_to-other : (words : List ℕ) (e base d : ℕ) → d ≢ e → slice_index (set_to words e base) d ≡ slice_index words d
-set_to-other words e base d other = get_or-set_other words e d (met words e base) 0 other
+set_to-other words e base d other = get_or-set_other words e d (meet_at words e base) 0 other
 
 pub set_to-refines : (words : List ℕ) (e base : ℕ) → e < length words → Refines (set_to words e base) words
 set_to-refines words e base below =
-    set-refines words e (met words e base) below (IsWithin-meet_l (slice_index words e) (2 ^ base))
+    set-refines words e (meet_at words e base) below (IsWithin-meet_l (slice_index words e) (2 ^ base))
 
 -- a network within, whose set of the edge is within the base relation, is within it still
 pub set_to-keeps : (words others : List ℕ) (e base : ℕ) → e < length words → Refines others words →
@@ -48,7 +48,7 @@ network-edge m n words e net below = subst (λ k. e < k) (sym net.length_is) bel
 pub set_to-network : (m : Algebra) (n : ℕ) (words : List ℕ) (e base : ℕ) → IsNetwork m n words → e < edge_count n →
     IsNetwork m n (set_to words e base)
 set_to-network m n words e base net below =
-    set-network m n words e (met words e base) net (network-edge m n words e net below)
+    set-network m n words e (meet_at words e base) net (network-edge m n words e net below)
     (IsWithin-meet_l (slice_index words e) (2 ^ base))
 
 -- ---- scenarios that have a base relation at an edge
@@ -62,9 +62,9 @@ scenario-refines m n smaller words relations within s = record {
   composes = s.composes;
 }
 
-pub from-set : (m : Algebra) (n : ℕ) (words : List ℕ) (e base : ℕ) (relations : List ℕ) → IsNetwork m n words →
+pub HasAt-from_set : (m : Algebra) (n : ℕ) (words : List ℕ) (e base : ℕ) (relations : List ℕ) → IsNetwork m n words →
     e < edge_count n → IsScenario m n (set_to words e base) relations → HasAt m n words e base relations
-from-set m n words e base relations net below s =
+HasAt-from_set m n words e base relations net below s =
     let own : e < length words = network-edge m n words e net below in
     let r = slice_index relations e in
     record {
@@ -73,9 +73,9 @@ from-set m n words e base relations net below s =
           (subst (λ x. Has x r) (set_to-here words e base own) (s.member e below)));
     }
 
-pub to-set : (m : Algebra) (n : ℕ) (words : List ℕ) (e base : ℕ) (relations : List ℕ) → IsNetwork m n words →
+pub IsScenario-set_to : (m : Algebra) (n : ℕ) (words : List ℕ) (e base : ℕ) (relations : List ℕ) → IsNetwork m n words →
     e < edge_count n → HasAt m n words e base relations → IsScenario m n (set_to words e base) relations
-to-set m n words e base relations net below h =
+IsScenario-set_to m n words e base relations net below h =
     let own : e < length words = network-edge m n words e net below in
     let r = slice_index relations e in
     record {

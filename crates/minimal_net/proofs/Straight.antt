@@ -14,7 +14,7 @@ use Rattle.split_search.proofs.Networks.{closure-network}
 use Rattle.minimal_net.specs.Labels.{set_to}
 use Rattle.minimal_net.specs.Straight.{IsClosedTriple, IsClosedOver}
 use Rattle.minimal_net.specs.Laws.{LeastAreScenario, StraightHasAt}
-use Rattle.minimal_net.proofs.SetEdges.{network-edge, scenario-refines, set_to-network, from-set}
+use Rattle.minimal_net.proofs.SetEdges.{network-edge, scenario-refines, set_to-network, HasAt-from_set}
 
 -- a set is within the composition of two others, read forward or backward
 along : (m : Algebra) (x y z a b d : ℕ) → x ≡ d → y ≡ a → z ≡ b → IsWithin x (composition m y z) →
@@ -93,6 +93,6 @@ straight_has m n class words e base closure relations straight net below is memb
     let met = set_to-network m n words e base net below in
     let own : IsNetwork m n closure = closure-network m n (set_to words e base) closure met is in
     let over : IsClosedOver m n class closure = record { is_network = own; closed = is.closed; members = members } in
-    from-set m n words e base relations net below
+    HasAt-from_set m n words e base relations net below
     (scenario-refines m n closure (set_to words e base) relations is.within
     (least_scenario m n class closure relations straight over least))

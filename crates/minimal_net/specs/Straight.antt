@@ -1,5 +1,5 @@
 -- Straight classes: in a closed network of their members the least base relations of the sets agree, so that a scenario
--- can be read off. Renz (1999) refines the sets of tractable classes to base relations in this way.
+-- can be read off. Renz (1999) finds scenarios of networks over H8, C8 and Q8 by refining their sets in such a way.
 use Rattle.std.specs.Prelude.{◌≡◌, ℕ, ◌<◌, ◌≤◌, List, length, slice_index, All, Contains, count_by, nat_lt, count_ones}
 use Rattle.calculus_table.specs.Rel.{Has, IsWithin}
 use Rattle.calculus_table.specs.Algebra.{Algebra, entry_at}
