@@ -1,4 +1,4 @@
--- Networks with one closure have one verdict, and closing may come before an edge's set is met with a base relation.
+-- Networks with one closure have one verdict, and a network has the labels of its closure.
 use Rattle.std.proofs.Common.{◌≡◌, ℕ, ◌^◌, ◌<◌, List, length, sym, ◌∙◌, subst}
 use Rattle.std.specs.Prelude.{slice_index}
 use Rattle.std.proofs.lemmas.List.{length-set}
@@ -8,12 +8,15 @@ use Rattle.calculus_table.proofs.Sets.{IsWithin-meet_r, IsWithin-trans}
 use Rattle.network_words.specs.Network.{Refines}
 use Rattle.network_words.specs.Closure.{IsClosed, IsClosure}
 use Rattle.network_words.proofs.Networks.{Refines-trans, IsClosure-unique, IsClosure-between}
+use Rattle.network_words.proofs.Existence.{closure_of}
 use Rattle.split_trees.specs.Tree.{TreeNode, NestedTree}
 use Rattle.split_search.specs.declared.verdict.Verdict.TheVariants.{Yes, No, Budget}
 use Rattle.split_search.specs.Ruled.{HasTree}
+use Rattle.split_search.proofs.Networks.{closure-network}
 use Rattle.minimal_net.specs.Labels.{set_to}
-use Rattle.minimal_net.specs.Laws.{SameClosureSameVerdict, ClosureSetTo}
-use Rattle.minimal_net.proofs.SetEdges.{meet_at, set_to-here, set_to-refines, set_to-keeps, network-edge}
+use Rattle.minimal_net.specs.Laws.{SameClosureSameVerdict, ClosureSetTo, LabelOfClosure}
+use Rattle.minimal_net.proofs.SetEdges.{meet_at, set_to-here, set_to-refines, set_to-keeps, set_to-network}
+use Rattle.minimal_net.proofs.SetEdges.{network-edge}
 
 same-tree : (m : Algebra) (n : ℕ) (words others closure : List ℕ) (nodes : List TreeNode)
     (P : List ℕ → NestedTree → Type 0) → IsClosure m n words closure → IsClosure m n others closure →
@@ -73,4 +76,23 @@ closure_set_to m n words closure e base made is below net =
       }),
       (λ c. IsClosure-between m n (set_to words e base) (set_to closure e base) made c (same ∙ sym longs)
           (closed-set_to m n words closure e base made is own (c.length_is ∙ longs) c.closed c.within) mono),
+    )
+
+pub label_of_closure : LabelOfClosure
+label_of_closure m n class budget words closure e base label calculus net is below =
+    let own = set_to-network m n closure e base (closure-network m n words closure net is) below in
+    let found = closure_of m n (set_to closure e base) calculus own in
+    let other = (closure_set_to m n words closure e base found.0 is below net).0 found.1 in
+    let before = set_to words e base in
+    let after = set_to closure e base in (
+      (λ l. record {
+        verdict = l.verdict;
+        is_verdict = same_verdict m n class budget before after found.0 l.verdict other found.1 l.is_verdict;
+        is = l.is;
+      }),
+      (λ l. record {
+        verdict = l.verdict;
+        is_verdict = same_verdict m n class budget after before found.0 l.verdict found.1 other l.is_verdict;
+        is = l.is;
+      }),
     )

@@ -53,6 +53,13 @@ ClosureSetTo =
     e < edge_count n → IsNetwork m n words →
     IsClosure m n (set_to closure e base) met ↔ IsClosure m n (set_to words e base) met
 
+-- so a network has the labels of its closure
+abbrev pub LabelOfClosure : Type 0
+LabelOfClosure =
+    (m : Algebra) (n : ℕ) (class : List ℕ) (budget : ℕ) (words closure : List ℕ) (e base : ℕ) (label : Label) →
+    IsCalculus m → IsNetwork m n words → IsClosure m n words closure → e < edge_count n →
+    IsLabel m n class budget words e base label ↔ IsLabel m n class budget closure e base label
+
 -- where the product of the sizes of the closed sets is one more than the budget at most, a base relation that some
 -- scenario has at the edge is held
 abbrev pub SeenIsHeld : Type 0

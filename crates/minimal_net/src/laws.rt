@@ -1,17 +1,19 @@
 //! Laws of labels, and of the classes over which they need no search.
 ghost use Rattle.minimal_net.specs.Laws.{LabelIsOne, LabelExists, LabelIsTrue, SameClosureSameVerdict, ClosureSetTo};
-ghost use Rattle.minimal_net.specs.Laws.{SeenIsHeld, LabelledKeepsScenarios, LabelledIsMinimal};
+ghost use Rattle.minimal_net.specs.Laws.{LabelOfClosure, SeenIsHeld, LabelledKeepsScenarios, LabelledIsMinimal};
 ghost use Rattle.minimal_net.specs.Laws.{LeastExist, LeastAreOne, LeastAreScenario, StraightHasAt};
 ghost use Rattle.minimal_net.specs.Laws.{StraightTreeEnds, StraightIsYes, StraightIsHeld};
 
-/// A base relation has one label at an edge, and what it says is so; the closure without the refuted base relations
-/// has the scenarios of the network, and is the minimal network where no label is open.
+/// A base relation has one label at an edge, and what it says is so; a network has the labels of its closure, and this
+/// without the refuted base relations has the scenarios of the network, and is the minimal network where no label is
+/// open.
 pub fn laws_of_labels()
     ensures label_is_one { LabelIsOne }
     ensures label_exists { LabelExists }
     ensures label_is_true { LabelIsTrue }
     ensures same_closure_same_verdict { SameClosureSameVerdict }
     ensures closure_set_to { ClosureSetTo }
+    ensures label_of_closure { LabelOfClosure }
     ensures seen_is_held { SeenIsHeld }
     ensures labelled_keeps_scenarios { LabelledKeepsScenarios }
     ensures labelled_is_minimal { LabelledIsMinimal }

@@ -1,5 +1,5 @@
 use Rattle.minimal_net.proofs.Labels.{label_one, label_exists, label_true, seen_held}
-use Rattle.minimal_net.proofs.Closures.{same_verdict, closure_set_to}
+use Rattle.minimal_net.proofs.Closures.{same_verdict, closure_set_to, label_of_closure}
 use Rattle.minimal_net.proofs.Labelled.{labelled_keeps, labelled_minimal}
 use Rattle.minimal_net.proofs.laws.laws_of_labels.Goals as goal
 
@@ -26,3 +26,6 @@ returns-clause-labelled_keeps_scenarios c = labelled_keeps
 
 pub returns-clause-labelled_is_minimal : goal.returns-clause-labelled_is_minimal
 returns-clause-labelled_is_minimal c = labelled_minimal
+
+pub returns-clause-label_of_closure : goal.returns-clause-label_of_closure
+returns-clause-label_of_closure c = label_of_closure
