@@ -135,7 +135,7 @@ def refute(calc, net, tree):
             continue
         i, k, parts, children = split
         need(0 <= i < k < len(net), f"node {number}: {i} {k} is no edge of the network")
-        need(len(parts) == len(children), f"node {number}: there are {len(parts)} parts and {len(children)} children")
+        need(0 < len(parts) == len(children), f"node {number}: there are {len(parts)} parts and {len(children)} children")
         sets = [frozenset(r for bit, r in enumerate(calc.names) if part >> bit & 1) for part in parts]
         left = net[i][k].difference(*sets)
         need(not left, f"node {number}: the parts leave out {' '.join(sorted(left))}")

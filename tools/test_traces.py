@@ -74,7 +74,7 @@ CHECKED = [
     ("parts that overlap", "point", WEAK, cert("point", 4, [
         split(0, 1, [3, 6], [1, 2], [[1, 2, 3]]), empty((0, 1, 3)), empty((1, 3, 0))]), ACCEPTED),
     ("a stated empty set", "point", net(2, "0 1 ( )"), cert("point", 2, [empty()]), ACCEPTED),
-    ("a split of an empty set", "point", net(2, "0 1 ( )"), cert("point", 2, [split(0, 1, [], [], [])]), ACCEPTED),
+    ("a part that is empty", "point", net(2, "0 1 ( )"), cert("point", 2, [split(0, 1, [0], [1], []), empty()]), ACCEPTED),
     ("facts that meet", "point", net(2, "0 1 ( < = )", "01 00 ( < )"), cert("point", 2, [empty()]), ACCEPTED),
     ("regions", "rcc8", net(3, "0 1 ( NTPP )", "1 2 ( TPP EQ )", "2 0 ( EC )"), APART, ACCEPTED),
     ("intervals", "allen", net(3, "0 1 ( d )", "2 1 ( b )", "0 2 ( b )"), cert("allen", 3, [empty((0, 1, 2))]), ACCEPTED),
@@ -97,7 +97,7 @@ CHECKED = [
     ("parts that miss a base relation", "point", WEAK, cert("point", 4, [split(0, 1, [5], [1], [[1, 2, 3]]), empty((0, 1, 3))]),
      "not accepted: node 0: the parts leave out ="),
     ("no parts", "point", net(2), cert("point", 2, [split(0, 1, [], [], [])]),
-     "not accepted: node 0: the parts leave out < = >"),
+     "not accepted: node 0: there are 0 parts and 0 children"),
     ("a step out of range", "point", CYCLE, cert("point", 3, [empty((0, 1, 2), (0, 1, 3))]),
      "not accepted: node 0, step 1: 0 1 3 aren't three nodes of the network"),
     ("a step of two nodes", "point", CYCLE, cert("point", 3, [empty((0, 1, 0))]),
