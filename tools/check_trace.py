@@ -49,8 +49,8 @@ class Calculus:
         self.names, self.all = list(names), frozenset(names)
         self.converse = cache(lambda a: frozenset(converses[r] for r in a))
         self.compose = cache(lambda a, b: frozenset(t for r in a for s in b for t in compositions[r, s]))
-        if len(self.all) < len(names) or not self.compose(self.all, self.all) <= self.all \
-                or any(converses[converses[r]] != r for r in names):
+        if sorted(names) != sorted(converses) or any(converses[converses[r]] != r for r in names) \
+                or not self.compose(self.all, self.all) <= self.all:
             raise ValueError
 
     def narrow(self, net, i, k, found):
@@ -110,7 +110,7 @@ def network(calc, data, relations):
     for fact in facts + [re.sub(r" [F012]{9} (\S+)$", r" ( \1 )", line) for line in relations.decode().splitlines()]:
         *pair, found = words("W W S", fact)
         i, k = (int(word) if word.isdigit() else names.index(word) for word in pair)
-        if i == k or not calc.all.issuperset(found) or len(set(names)) not in (0, nodes):
+        if i == k or len(set(names)) not in (0, nodes):
             raise ValueError
         calc.narrow(net, i, k, frozenset(found))
     return net

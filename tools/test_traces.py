@@ -131,7 +131,9 @@ CHECKED = [
     ("no key", "point", CYCLE, b"{}", FORM),
 ] + [(shows, word, data, APART, sentence, *drawn) for shows, word, data, sentence, *drawn in (
     ("no network", "rcc8", b"", NETWORK),
-    ("no end line", "rcc8", b"nodes 3\n", NETWORK),
+    ("no end line", "rcc8", b"nodes 3\n0 1 ( NTPP )\n1 2 ( TPP )\n", NETWORK),
+    ("a line after the end line", "rcc8", net(3) + b"0 1 ( NTPP )\n", NETWORK),
+    ("another line before the end line", "rcc8", net(3, "."), NETWORK),
     ("another calculus", "rcc8", CYCLE, NETWORK),
     ("a fact of one node", "rcc8", net(3, "1 1 ( )"), NETWORK),
     ("a node that isn't there", "rcc8", net(3, "0 3 ( )"), NETWORK),
@@ -142,6 +144,17 @@ CHECKED = [
     ("a network as a table", str(EXAMPLES / "guests.net"), GUESTS, "refused: the calculus isn't in the form of a table"),
 )]
 
+# what it shows, what of the table of friends is bent, and what stands there
+BENT_TABLES = [
+    ("a name twice", "names ( same", "names ( same same"),
+    ("a name without converse", "names ( same", "names ( foes same"),
+    ("a converse of a name that isn't there", "same :: same", "same :: same\nfoes :: foes"),
+    ("a converse whose converse is another", "same :: same", "same :: friends"),
+    ("no composition of two names", "friends : same :: ( friends )", ""),
+    ("a composition of another name", "friends : same :: ( friends )", "friends : same :: ( foes )"),
+    ("a line of another form", "friends : same :: ( friends )", "friends : same :: friends"),
+]
+
 # what it shows, the certificate, the steps of each node that are left
 TRIMMED = [
     ("a step that nothing needs", cert("point", 4, [empty((0, 1, 2), (1, 2, 3), (0, 2, 3))]), [[[0, 1, 2], [0, 2, 3]]]),
@@ -149,6 +162,8 @@ TRIMMED = [
     ("what children rest on", SPLIT, [[[1, 2, 3]], [[0, 1, 3]], [[0, 1, 3]]]),
     ("what the parts rest on", cert("point", 4, [split(0, 1, [1], [1], [[0, 2, 1], [1, 3, 2]]), empty((0, 1, 3))]),
      [[[0, 2, 1]], [[0, 1, 3]]]),
+    ("what the parts alone rest on", cert("point", 5, [split(0, 1, [1], [1], [[0, 2, 1], [1, 3, 2]]), empty((2, 3, 4))]),
+     [[[0, 2, 1]], [[2, 3, 4]]]),
     ("a set that is narrowed twice", cert("rcc8", 5, [empty((0, 1, 2), (4, 1, 0), (2, 3, 0), (0, 2, 4))]),
      [[[0, 1, 2], [4, 1, 0], [2, 3, 0], [0, 2, 4]]]),
     ("a step too late", cert("rcc8", 5, [empty((0, 2, 4), (0, 1, 2), (0, 3, 4))]), [[[0, 2, 4], [0, 3, 4]]]),
@@ -344,6 +359,15 @@ def traced(built):
     yield "some networks of each kind", {kind: number > 9 for kind, number in count.items()}, dict.fromkeys(count, True)
 
 
+def tables(room):
+    """The tests of bent tables."""
+    path = pathlib.Path(room) / "bent.table"
+    for shows, before, after in BENT_TABLES:
+        path.write_text(pathlib.Path(FRIENDS).read_text().replace(before, after, 1))
+        found = sentence(str(path), GUESTS, cert(FRIENDS, 3, [empty((0, 1, 2))]))
+        yield f"a table with {shows}", found, "refused: the calculus isn't in the form of a table"
+
+
 def runs(room):
     """The tests of the tools as they are run."""
     def run(tool, *words, data=b""):
@@ -373,6 +397,7 @@ def runs(room):
 
 def cases(program, room):
     yield from worked()
+    yield from tables(room)
     yield from runs(room)
     if program.exists():
         yield from traced(Built(program, room))
