@@ -106,11 +106,13 @@ def network(calc, data, relations):
     first, *facts = lines(data)
     nodes = int(*words("nodes W", first))
     names = words("names S", facts.pop(0))[0] if facts and facts[0].startswith("names (") else []
+    if not 0 < nodes <= 256 or len(set(names)) not in (0, nodes):
+        raise ValueError
     net = [[calc.all] * nodes for _ in range(nodes)]
     for fact in facts + [re.sub(r" [F012]{9} (\S+)$", r" ( \1 )", line) for line in relations.decode().splitlines()]:
         *pair, found = words("W W S", fact)
         i, k = (int(word) if word.isdigit() else names.index(word) for word in pair)
-        if i == k or len(set(names)) not in (0, nodes):
+        if i == k:
             raise ValueError
         calc.narrow(net, i, k, frozenset(found))
     return net

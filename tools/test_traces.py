@@ -135,6 +135,8 @@ CHECKED = [
     ("a line after the end line", "rcc8", net(3) + b"0 1 ( NTPP )\n", NETWORK),
     ("another line before the end line", "rcc8", net(3, "."), NETWORK),
     ("another calculus", "rcc8", CYCLE, NETWORK),
+    ("no nodes", "rcc8", net(0), NETWORK),
+    ("too many nodes", "rcc8", net(10 ** 17), NETWORK),
     ("a fact of one node", "rcc8", net(3, "1 1 ( )"), NETWORK),
     ("a node that isn't there", "rcc8", net(3, "0 3 ( )"), NETWORK),
     ("a set without its end", "rcc8", net(3, "0 1 ( EC"), NETWORK),
