@@ -10,3 +10,4 @@ pub mod There
 pub mod Demos
 pub mod PlacedFacts
 pub mod DrawnNetworks
+pub mod SomeScene

@@ -86,7 +86,7 @@ last-more P k b bs len h pb e l = elim (cases_lt e k) [
       (subst (P e) (sym (get_or-append-add bs (b ∷ []) 0 0)) (subst (λ i. P i b) is_k pb)))
 ]
 
-list-there : (P : ℕ → ℕ → Type 0) (k : ℕ) → ((e : ℕ) → e < k → ((b : ℕ) → P e b → ⊥) → ⊥) →
+pub list-there : (P : ℕ → ℕ → Type 0) (k : ℕ) → ((e : ℕ) → e < k → ((b : ℕ) → P e b → ⊥) → ⊥) →
     ((bs : List ℕ) → length bs ≡ k → ((e : ℕ) → e < k → P e (slice_index bs e)) → ⊥) → ⊥
 list-there P zero each none = none [] refl (λ e l. absurd (omega arith))
 list-there P (suc k) each none =

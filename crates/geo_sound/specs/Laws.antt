@@ -51,6 +51,12 @@ abbrev pub SceneIsOne : Type 0
 SceneIsOne =
     (polygons : List NamedRing) (net other : Network) → IsScene polygons net → IsScene polygons other → net ≡ other
 
+-- and one at least where their rings are regions, which is closed: it can't be that none is theirs
+abbrev pub SceneIsThere : Type 0
+SceneIsThere =
+    (polygons : List NamedRing) → All (λ p. IsRegion p.vertices) polygons →
+    ((net : Network) → IsScene polygons net → IsClosed rcc8_algebra net.nodes net.words → ⊥) → ⊥
+
 -- a closed network is its own closure
 abbrev pub ClosedIsClosure : Type 0
 ClosedIsClosure = (n : ℕ) (words : List ℕ) → IsClosed rcc8_algebra n words → IsClosure rcc8_algebra n words words

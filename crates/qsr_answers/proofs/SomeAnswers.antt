@@ -5,6 +5,7 @@ use Rattle.std.proofs.lemmas.Bool.{cases_eq}
 use Rattle.std.proofs.lemmas.Map.Made.{Contains-tail}
 use Rattle.calculus_table.specs.Calculus.{NamedAlgebra, IsNamedCalculus}
 use Rattle.calculus_builtin.specs.Allen.{allen_calculus}
+use Rattle.calculus_builtin.specs.Rcc8.{rcc8_calculus}
 use Rattle.calculus_builtin.proofs.AllenLaws.{allen_lawful}
 use Rattle.allen_real.proofs.Composed.{scenario-open}
 use Rattle.allen_real.proofs.Realised.{scenario-realised}
@@ -15,6 +16,9 @@ use Rattle.network_file.specs.NetworkText.{network_text}
 use Rattle.split_search.specs.declared.verdict.Verdict.{Verdict}
 use Rattle.split_search.specs.declared.verdict.Verdict.TheVariants as verdict
 use Rattle.split_search.proofs.SomeVerdict.{verdict_exists}
+use Rattle.geo_facts.specs.PolygonFile.{NamedRing}
+use Rattle.geo_sound.proofs.DrawnNetworks.{closed-closure}
+use Rattle.geo_sound.proofs.SomeScene.{scene-there}
 use Rattle.qsr_words.specs.Asked.{SolveAsked, IntervalsAsked}
 use Rattle.qsr_inputs.specs.Inputs.{Guided, CanGuide}
 use Rattle.qsr_inputs.specs.declared.statuses.Status.TheVariants.{Done, No}
@@ -23,6 +27,8 @@ use Rattle.qsr_answers.specs.Texts.{verdict_line}
 use Rattle.qsr_answers.specs.Verdicts.{HasScenario, answer_text, verdict_status}
 use Rattle.qsr_answers.specs.Intervals.{IsIntervalsText, interval_line}
 use Rattle.qsr_answers.specs.Commands.{ClosesNetwork, IsVerdictOn, SolvesNetwork, RealisesNetwork, IsAnswered}
+use Rattle.qsr_answers.specs.Commands.{DrawsScene}
+use Rattle.qsr_answers.proofs.Agreeing.{AreNamedRegions}
 use Rattle.qsr_answers.proofs.SomeCertificates.{Made}
 use Rattle.qsr_answers.proofs.Verdicts.{verdict_true, no_rules_out, scenario_of}
 
@@ -118,3 +124,21 @@ realises asked class net guides over =
       answered = verdict_answers v.0;
       work = record { verdict = v.0; on_network = v.1; text_is = text.1; status_is = refl };
     }
+
+-- ---- scenes: it can't be that there is none
+
+pub draws : (polygons : List NamedRing) → AreNamedRegions polygons → (Made (DrawsScene polygons) → ⊥) → ⊥
+draws polygons are none = scene-there polygons are.regions (λ net is closed. none (record {
+  text = network_text rcc8_calculus net;
+  status = Done;
+  answered = tt;
+  work = (
+    record {
+      net = net;
+      is_scene = is;
+      is_closure = closed-closure net.nodes net.words closed;
+      text_is = refl;
+    },
+    refl,
+  );
+}))

@@ -38,14 +38,27 @@ use Rattle.cert_file.specs.declared.fault.CertFault.{CertFault}
 use Rattle.cert_file.specs.declared.fault.CertFault.TheVariants as cert
 use Rattle.cert_file.proofs.Answered as cert_answers
 use Rattle.cert_file.proofs.ReadForms.{IsWritable-read}
+use Rattle.geo_facts.specs.PolygonFile as polygon_files
 use Rattle.geo_facts.specs.PolygonFile.{NamedRing}
+use Rattle.geo_facts.specs.declared.fault.GeoFault.{GeoFault}
+use Rattle.geo_facts.specs.declared.fault.GeoFault.TheVariants as geo
+use Rattle.geo_facts.proofs.SomeAnswer.{file-answer}
+use Rattle.poly_exact.specs.declared.rings.RingFault.{RingFault}
+use Rattle.poly_exact.specs.declared.rings.RingFault.TheVariants as ring
+use Rattle.line_files.specs.FileText.{FileText, file_text}
+use Rattle.line_files.specs.declared.lines.TextEnd.{TextEnd}
+use Rattle.line_files.specs.declared.lines.TextEnd.TheVariants.{Whole, BadLine}
+use Rattle.qsr_lex.specs.Lexemes.{Lexeme}
+use Rattle.qsr_lex.specs.TokenLines.{TokenLine}
 use Rattle.geo_facts.proofs.OneFacts.{AreFactsOf-none}
 use Rattle.qsr_lex.specs.declared.TheConstants.{MAX_TEXT}
 use Rattle.qsr_outside.specs.Documents.{Documents, document}
 use Rattle.qsr_words.specs.Asked.{class_fits, is_rcc8_class}
 use Rattle.qsr_inputs.specs.Stops.{Cause, refuses, is_long}
 use Rattle.qsr_inputs.specs.Parts.{Then}
-use Rattle.qsr_inputs.specs.Numbers.{load_refusal, class_refusal, file_refusal, cert_refusal}
+use Rattle.qsr_inputs.specs.Numbers.{load_refusal, class_refusal, file_refusal, cert_refusal, geo_refusal}
+use Rattle.qsr_inputs.specs.Numbers.{ring_refusal, no_polygon_refusal}
+use Rattle.qsr_inputs.specs.Inputs.{PolygonsIn, PolygonsOf, SomePolygons, DrawnOf}
 use Rattle.qsr_inputs.specs.Inputs.{BytesWithin, DocumentOf, TableOf, CalculusOf, ClassFileOf, ClassOf, Guided, IsGuided, CanGuide, CalculusAndClass, CertificateIn, CertificateOf, PolygonsAsked, NetworkOf, SourceNetwork, PlacedOn, PlacedNetwork, Searched, IsSearched, SearchedOf, Claimed, IsClaimed, ClaimedOf}
 use Rattle.qsr_inputs.specs.Told.{named_by_calculus, named_by_class, named_by_polygons}
 use Rattle.qsr_inputs.specs.declared.statuses.Place.{Place}
@@ -235,6 +248,62 @@ CalculusAndClass-there documents calculus class fits there =
     (ClassOf-there c known.lawful documents class (λ e. known.rcc8 (fits_rcc8 (bytes_eq calculus (codes "rcc8")) (is_rcc8_class class) fits e))
     (all_second (HasDocumentIn documents) (named_by_calculus calculus) (named_by_class class) there)) (λ k guides.
     value (record { calculus = c; class = k }) refl (record { lawful = known.lawful; guides = guides })))
+
+-- ---- polygons
+
+ring-numbered : (line : ℕ) (f : RingFault) → f ≢ ring.Memory → HasNumber (ring_refusal line f)
+ring-numbered line ring.Few h = numbered _ _
+ring-numbered line (ring.Coordinate k) h = numbered _ _
+ring-numbered line (ring.NotSimple e f) h = numbered _ _
+ring-numbered line ring.ManyVertices h = numbered _ _
+ring-numbered line ring.Memory h = absurd (h refl)
+
+line-numbered : (before : List NamedRing) (line : ℕ) (tokens : List Lexeme) (f : GeoFault) →
+    polygon_files.IsLineFault before line tokens f → HasNumber (geo_refusal f)
+line-numbered before line tokens (geo.Ring at f) h = ring-numbered at f h.1.of_points
+line-numbered before line tokens (geo.Syntax at) h = numbered _ _
+line-numbered before line tokens (geo.Hole at) h = numbered _ _
+line-numbered before line tokens (geo.ManyPolygons at) h = numbered _ _
+line-numbered before line tokens (geo.NameTwice at) h = numbered _ _
+line-numbered before line tokens (geo.Open at) h = numbered _ _
+line-numbered before line tokens geo.Memory h = absurd h
+
+end-numbered : (end : TextEnd) (f : GeoFault) → polygon_files.IsEndFault end f → HasNumber (geo_refusal f)
+end-numbered (BadLine line) f h = subst (λ x. HasNumber (geo_refusal x)) (sym h) (numbered _ _)
+end-numbered (Whole lines) f h = absurd h
+
+lines-numbered : (end : TextEnd) (ls : List TokenLine) (f : GeoFault) (before : List NamedRing) →
+    polygon_files.HaveFault end ls f before → HasNumber (geo_refusal f)
+lines-numbered end [] f before h = end-numbered end f h
+lines-numbered end (l ∷ ls) f before h = elim h [
+  | inl own ↦ line-numbered before l.number l.tokens f own
+  | inr more ↦ lines-numbered end ls f (before ++ more.polygon ∷ []) more.rest
+]
+
+-- polygons of a file
+pub record AreOfSomeFile (polygons : List NamedRing) : Type 0 where
+  pub bytes : List ℕ
+  pub are : polygon_files.IsFileOf bytes polygons
+
+PolygonsIn-there : (bytes : List ℕ) → There (PolygonsIn bytes) AreOfSomeFile
+PolygonsIn-there bytes = elim (file-answer bytes) [
+  | inl f ↦ value f.polygons f.is (record { bytes = bytes; are = f.is })
+  | inr f ↦ (let text : FileText = file_text bytes in
+      let n = lines-numbered text.end text.lines f.fault [] f.is in
+      stops (refuses n.number n.place) (record { fault = f.fault; refused = f.is; numbered = n.is }))
+]
+
+some-there : (polygons : List NamedRing) → AreOfSomeFile polygons → There (SomePolygons polygons) AreOfSomeFile
+some-there [] are = stops (refuses no_polygon_refusal.0 no_polygon_refusal.1) refl
+some-there (p ∷ ps) are = value (p ∷ ps) refl are
+
+pub DrawnOf-there : (documents : Documents) (name : List ℕ) → AreThereIn documents (name ∷ []) →
+    There (DrawnOf documents name) AreOfSomeFile
+DrawnOf-there documents name there =
+    Then-there (PolygonsOf documents name) SomePolygons AreOfSomeFile AreOfSomeFile
+    (Then-there (DocumentOf documents name) PolygonsIn (λ _. ⊤) AreOfSomeFile
+    (bytes-there (document documents name) (All-head (HasDocumentIn documents) name [] there))
+    (λ bytes _. PolygonsIn-there bytes)) some-there
 
 -- ---- certificates
 

@@ -1,22 +1,24 @@
 -- One text and one status at least are permitted for what words ask for, where the documents that they name are there, and no
 -- polygons are asked for.
-use Rattle.std.proofs.Common.{ℕ, List, [], None, Some, Ok, Err, refl}
+use Rattle.std.proofs.Common.{ℕ, List, [], None, Some, Ok, Err, inl, refl}
+use Rattle.std.specs.Prelude.{⊤}
 use Rattle.calculus_builtin.specs.Allen.{allen_calculus}
 use Rattle.network_words.specs.Network.{Network}
 use Rattle.qsr_outside.specs.Documents.{Documents}
-use Rattle.qsr_words.specs.Asked.{Asked, close, solve, intervals, check, trace}
+use Rattle.qsr_words.specs.Asked.{Asked, SceneAsked, close, solve, intervals, check, trace, scene}
 use Rattle.qsr_inputs.specs.Stops.{Cause, refuses, is_long}
 use Rattle.qsr_inputs.specs.Parts.{Then}
 use Rattle.qsr_inputs.specs.Inputs.{Searched, Claimed}
 use Rattle.qsr_inputs.specs.Given.{GivenTo, ReadBy, DocumentsGive, SourceGives, Input, IsInput, InputOf}
 use Rattle.qsr_inputs.specs.declared.statuses.Status.TheVariants.{Usage, Refused, TooLong}
 use Rattle.qsr_inputs.proofs.InputsThere.{There, value, stops, Then-there, IsOfWord, CalculusOf-there, SourceNetwork-there, PlacedNetwork-there, IsOver, IsSoundSearch, SearchedOf-there, IsSoundClaim, ClaimedOf-there}
-use Rattle.qsr_inputs.proofs.InputsThere.{IsGuideFor, AllenClass-there}
+use Rattle.qsr_inputs.proofs.InputsThere.{IsGuideFor, AllenClass-there, AreOfSomeFile, DrawnOf-there}
 use Rattle.qsr_answers.specs.Texts.{usage_text, refusal_text}
 use Rattle.qsr_answers.proofs.SomeCertificates.{Made, checks_there, traces_there}
-use Rattle.qsr_answers.proofs.SomeAnswers.{closes, solves, realises}
+use Rattle.qsr_answers.proofs.SomeAnswers.{closes, solves, realises, draws}
+use Rattle.qsr_answers.proofs.Agreeing.{file-regions}
 use Rattle.qsr_commands.specs.Output.{Makes}
-use Rattle.qsr_top.specs.Laws.{HasOutput, OutputIsThere}
+use Rattle.qsr_top.specs.Laws.{HasOutput, OutputIsThere, SceneIsAnswered}
 use Rattle.qsr_commands.proofs.Working.{working_output, long_output}
 
 -- ---- a command
@@ -85,3 +87,18 @@ output_there (Some (trace asked)) documents bytes fits none there =
     (ClaimedOf-there documents asked.calculus asked.certificate asked.polygons none there)
     (λ k known. PlacedNetwork-there bytes k.calculus k.polygons known.none) (λ k net known over. traces_there k.calculus net known.lawful over k.certificate known.scenario)
 output_there _ documents bytes fits none there = absurd none
+
+-- ---- scenes
+
+module _ (asked : SceneAsked) (documents : Documents) (bytes : List ℕ) where
+  drawn_out : There (DocumentsGive (scene asked) documents) AreOfSomeFile →
+      (HasOutput (Some (scene asked)) documents bytes → ⊥) → ⊥
+  drawn_out (stops cause h) none = none (stopped_out (scene asked) documents bytes AreOfSomeFile (λ g r. ⊤) cause (inl h))
+  drawn_out (value polygons h are) none =
+      draws polygons (file-regions are.bytes polygons are.are) (λ made.
+      none (worked_out (scene asked) documents bytes AreOfSomeFile (λ g r. ⊤) (record { given = polygons; read = tt })
+      (record { value = polygons; first = h; second = record { value = tt; first = refl; second = refl } }) made))
+
+pub scene_answered : SceneIsAnswered
+scene_answered asked documents bytes there none =
+    drawn_out asked documents bytes (DrawnOf-there documents asked.polygons there) none

@@ -6,7 +6,8 @@ use Rattle.calculus_builtin.specs.Rcc8.{rcc8_calculus}
 use Rattle.network_words.specs.Edge.{edge_count}
 use Rattle.network_words.specs.Network.{Network}
 use Rattle.qsr_outside.specs.Documents.{Documents, document}
-use Rattle.qsr_words.specs.Asked.{Asked, SolveAsked, close, solve, intervals, check, trace, asked_by}
+use Rattle.qsr_words.specs.Asked.{Asked, SolveAsked, SceneAsked, close, solve, intervals, check}
+use Rattle.qsr_words.specs.Asked.{trace, scene, asked_by}
 use Rattle.qsr_words.specs.Requests.{FitsCalculus}
 use Rattle.qsr_inputs.specs.Inputs.{SourceNetwork}
 use Rattle.qsr_inputs.specs.Told.{named_documents, is_served}
@@ -48,6 +49,11 @@ OutputIsThere = (asked : Option Asked) (documents : Documents) (bytes : List ℕ
 -- which they do in all that words ask for
 abbrev pub WordsFit : Type 0
 WordsFit = (words : List (List ℕ)) → FitsCalculus (asked_by words)
+
+-- where polygons are drawn it can't be that nothing is permitted, if the document that is named is there
+abbrev pub SceneIsAnswered : Type 0
+SceneIsAnswered = (asked : SceneAsked) (documents : Documents) (bytes : List ℕ) →
+    HasNamedDocuments (Some (scene asked)) documents → (HasOutput (Some (scene asked)) documents bytes → ⊥) → ⊥
 
 -- the network of the source states nothing: each of its edges has all base relations
 abbrev pub StatesNothing : NamedAlgebra → List ℕ → Type 0
