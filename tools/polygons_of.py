@@ -500,7 +500,7 @@ def write_table(name, polygons):
         with open(name, "w", encoding="utf-8", errors="backslashreplace", newline="\n") as target:
             target.write(table(polygons))
     except OSError as fault:
-        raise Refused(f"{name} can't be written: {fault.strerror}") from None
+        raise Refused(f"{name}: it can't be written: {fault.strerror}") from None
 
 
 def converted(asked):
