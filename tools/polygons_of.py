@@ -39,7 +39,7 @@ import sys
 import unicodedata
 from collections import Counter, namedtuple
 from decimal import Context, Decimal, InvalidOperation, ROUND_CEILING, ROUND_HALF_UP, localcontext
-from itertools import count
+from itertools import count, takewhile
 
 LIMIT = 100_000_000
 MOST_POLYGONS, MOST_VERTICES, MOST_NODES, MOST_LETTERS = 128, 256, 256, 64
@@ -421,33 +421,34 @@ def touch(ring, e, f):
 
 
 def meeting(ring):
-    """Two edges of a closed ring that meet where they may not, or nothing. Those that begin farther left come first."""
-    def ends(e):
-        return sorted((ring[e][0], ring[e + 1][0]))
-
-    order = sorted(range(len(ring) - 1), key=ends)
+    """The first two edges of a closed ring that meet where they may not, or nothing."""
+    ends = [sorted((a[0], b[0])) for a, b in zip(ring, ring[1:])]
+    order, found = sorted(range(len(ends)), key=ends.__getitem__), []
     for place, e in enumerate(order):
-        for f in order[place + 1:]:
-            if ends(f)[0] > ends(e)[1]:
-                break
-            if touch(ring, min(e, f), max(e, f)):
-                return min(e, f), max(e, f)
-    return None
+        # those after it that begin no farther to the right than it ends
+        near = takewhile(lambda f, right=ends[e][1]: ends[f][0] <= right, order[place + 1:])
+        found += [pair for pair in (tuple(sorted((e, f))) for f in near) if touch(ring, *pair)]
+    return min(found, default=None)
+
+
+def closed(points, place=tuple):
+    """Points without those at the place of the one before, and the first one again at the end."""
+    kept = [point for k, point in enumerate(points) if k == 0 or place(point) != place(points[k - 1])]
+    return kept if place(kept[0]) == place(kept[-1]) else kept + kept[:1]
 
 
 def ring_of(points, scale, middle):
     """A ring as whole numbers round the middle, whose last point is its first."""
     moved = [tuple(whole(value, scale) - zero for value, zero in zip(point, middle)) for point in points]
-    pairs = [pair for k, pair in enumerate(zip(moved, points)) if k == 0 or pair[0] != moved[k - 1]]
-    if pairs[0][0] != pairs[-1][0]:
-        pairs.append(pairs[0])
+    pairs = closed(list(zip(moved, points)), lambda pair: pair[0])
     ring, vertices = [pair[0] for pair in pairs], len(pairs) - 1
     ask(vertices >= 3, f"at the scale {plain(scale)} fewer than 3 vertices are left")
     ask(vertices <= MOST_VERTICES, f"it has {vertices} vertices, more than {MOST_VERTICES}")
     found = meeting(ring)
     if found:
         one, two = (" to ".join(" ".join(map(plain, pairs[end][1])) for end in (e, e + 1)) for e in found)
-        raise Refused(f"at the scale {plain(scale)} its ring meets itself: the edge from {one} and the one from {two}")
+        only = "" if meeting(closed(points)) else f" at the scale {plain(scale)}, but not before rounding"
+        raise Refused(f"its ring meets itself{only}: the edge from {one} and the one from {two}")
     return ring
 
 
@@ -461,8 +462,9 @@ def polygon_file(polygons, asked, notes):
     rings = each(labels, outlines, lambda part: ring_of(part, scale, middle))
     at = " ".join(plain(Context(prec=DIGITS_BEFORE).divide(Decimal(value), scale)) for value in middle)
     moved = farthest(points, scale)
+    far = f"; rounding moved a point by {plain(moved)} at most" if moved else ""
     notes.say_outlines()
-    notes.say(f"scale {plain(scale)}, with {at} at 0 0" + (f"; rounding moved a point by {plain(moved)} at most" if moved else ""))
+    notes.say(f"scale {plain(scale)}, with {at} at 0 0{far}")
     return "".join(f"{polygon.written} POLYGON ((" + ", ".join(f"{x} {y}" for x, y in ring) + "))\n"
                    for polygon, ring in zip(polygons, rings))
 

@@ -29,7 +29,13 @@ HIGH = [[0, 0, 7], [2, 0, 7], [2, 2, 7, 5], [0, 2], [0, 0, 7]]
 DONE = "POLYGON ((-1 -1, 1 -1, 1 1, -1 1, -1 -1))"
 AT, BY_ID = "scale 1, with 1 1 at 0 0", "named by id"
 # a triangle, and what is written of it
-SMALL, SMALL_DONE = "POLYGON ((0 0, 8 0, 0 8, 0 0))", "POLYGON ((-4 -4, 4 -4, -4 4, -4 -4))"
+SMALL, SMALL_RING = "POLYGON ((0 0, 8 0, 0 8, 0 0))", "-4 -4, 4 -4, -4 4, -4 -4"
+SMALL_DONE, SMALL_AT = f"POLYGON (({SMALL_RING}))", "scale 1, with 4 4 at 0 0"
+OTHER = "names are written in another form, as --table lists"
+HOLE = "it has a hole; --holes drop would take its outline alone"
+PARTS = "it has 2 parts; --parts largest would take the largest"
+NO_POINT = "a point of its ring doesn't have two coordinates"
+NO_NAMES = "it has no line of names, and numbers in place of them can't be extended"
 ARC = [f"{k} {k * k}" for k in range(257)]
 
 
@@ -56,50 +62,55 @@ def plan(*coordinates):
 
 # what it shows, the line, the scale, what comes of it, how many units are one, what lies at 0 0 and how far points moved
 SCALED = [
-    ("decimals by a scale", plan("0.5 0", "3 0", "3 2.5", "0.5 0"), "10", "-12 -12, 13 -12, 13 13, -12 -12", "10", "1.7 1.2", ""),
+    ("decimals by a scale", plan("0.5 0", "3 0", "3 2.5", "0.5 0"), "10",
+     "-12 -12, 13 -12, 13 13, -12 -12", "10", "1.7 1.2", ""),
     ("a half away from 0", plan("-0.5 0", "0.5 4", "9 -2.5", "-0.5 0"), "1", "-5 0, -3 4, 5 -3, -5 0", "1", "4 0", "0.5"),
     ("no rounding by floats", plan("0.145 0", "9 0", "0 9", "0.145 0"), "100", "-435 -450, 450 -450, -450 450, -435 -450",
      "100", "4.5 4.5", "0.005"),
     ("the scale that loses nothing", plan("0.145 0", "9 0", "0 9", "0.145 0"), None,
      "-4355 -4500, 4500 -4500, -4500 4500, -4355 -4500", "1000", "4.5 4.5", ""),
-    ("zeros after the point", plan("0.500 0", "8.00 0", "0 1e1", "0.5 0.0"), None, "-35 -50, 40 -50, -40 50, -35 -50", "10", "4 5", ""),
+    ("zeros after the point", plan("0.500 0", "8.00 0", "0 1e1", "0.5 0.0"), None,
+     "-35 -50, 40 -50, -40 50, -35 -50", "10", "4 5", ""),
     ("both coordinates of a point", plan("0 0", "10.3 0.4", "0 9", "0 0"), "1", "-5 -4, 5 -4, -5 5, -5 -4", "1", "5 4", "0.5"),
     ("two digits, upwards", plan("0 0", "9.1111 0", "0 9", "0 0"), "1", "-4 -4, 5 -4, -4 5, -4 -4", "1", "4 4", "0.12"),
-    ("metres with centimetres", plan("456123.37 5427890.12", "456123.39 5427890.12", "456123.39 5427890.16", "456123.37 5427890.12"),
-     None, "-1 -2, 1 -2, 1 2, -1 -2", "100", "456123.38 5427890.14", ""),
-    ("degrees with seven decimals", plan("8.4037563 49.0068901", "8.4037565 49.0068901", "8.4037565 49.0068905", "8.4037563 49.0068901"),
-     None, "-1 -2, 1 -2, 1 2, -1 -2", "10000000", "8.4037564 49.0068903", ""),
+    ("metres with centimetres",
+     plan("456123.37 5427890.12", "456123.39 5427890.12", "456123.39 5427890.16", "456123.37 5427890.12"), None,
+     "-1 -2, 1 -2, 1 2, -1 -2", "100", "456123.38 5427890.14", ""),
+    ("degrees with seven decimals",
+     plan("8.4037563 49.0068901", "8.4037565 49.0068901", "8.4037565 49.0068905", "8.4037563 49.0068901"), None,
+     "-1 -2, 1 -2, 1 2, -1 -2", "10000000", "8.4037564 49.0068903", ""),
     ("the widest plan", plan("0 0", "2 0", "0 2", "0 0"), "100000000",
      "-100000000 -100000000, 100000000 -100000000, -100000000 100000000, -100000000 -100000000", "100000000", "1 1", ""),
     ("decimals too fine for the limit", plan("0 0", "30 0", "0 0.12345678", "0 0"), None,
      "-15000000 -61728, 15000000 -61728, -15000000 61729, -15000000 -61728", "1000000", "15 0.061728", "0.00000022"),
     ("metres too wide for the limit", plan("0 0", "3e9 0", "0 3e9", "0 0"), None,
      "-15000000 -15000000, 15000000 -15000000, -15000000 15000000, -15000000 -15000000", "0.01", "1500000000 1500000000", ""),
-    ("points that fall together", plan("0 0", "0.1 0", "8 0", "0 8", "0 0"), "1", "-4 -4, 4 -4, -4 4, -4 -4", "1", "4 4", "0.1"),
-    ("points that stand twice", plan("0 0", "0 0", "8 0", "8 0", "0 8", "0 0", "0 0"), None, "-4 -4, 4 -4, -4 4, -4 -4", "1", "4 4", ""),
-    ("an end that rounding closes", plan("0 0", "8 0", "0 8", "0 0.1", "0 0"), "1", "-4 -4, 4 -4, -4 4, -4 -4", "1", "4 4", "0.1"),
+    ("points that fall together", plan("0 0", "0.1 0", "8 0", "0 8", "0 0"), "1", SMALL_RING, "1", "4 4", "0.1"),
+    ("points that stand twice", plan("0 0", "0 0", "8 0", "8 0", "0 8", "0 0", "0 0"), None, SMALL_RING, "1", "4 4", ""),
+    ("an end that rounding closes", plan("0 0", "8 0", "0 8", "0 0.1", "0 0"), "1", SMALL_RING, "1", "4 4", "0.1"),
 ]
 
 # what it shows, the text, the words, the lines that are written, what is told
 WRITTEN = [
-    ("lines to pass over", f"# plan\n\n a {SMALL} # end\r\n", "", [f"a {SMALL_DONE}"], ["scale 1, with 4 4 at 0 0"]),
-    ("a byte order mark", f"\ufeffa {SMALL}\n", "", [f"a {SMALL_DONE}"], ["scale 1, with 4 4 at 0 0"]),
+    ("lines to pass over", f"# plan\n\n a {SMALL} # end\r\n", "", [f"a {SMALL_DONE}"], [SMALL_AT]),
+    ("a byte order mark", f"\ufeffa {SMALL}\n", "", [f"a {SMALL_DONE}"], [SMALL_AT]),
     ("a name with blanks in a line", f"the old mill {SMALL}", "", [f"the_old_mill {SMALL_DONE}"],
-     ["1 of 1 names are written in another form, as --table lists", "scale 1, with 4 4 at 0 0"]),
-    ("a line without a name", SMALL, "", [f"feature_1 {SMALL_DONE}"], ["scale 1, with 4 4 at 0 0"]),
+     [f"1 of 1 {OTHER}", SMALL_AT]),
+    ("a line without a name", SMALL, "", [f"feature_1 {SMALL_DONE}"], [SMALL_AT]),
     ("a third coordinate in a line", "a POLYGON Z ((0 0 1, 8 0 1, 0 8 1, 0 0 1))", "", [f"a {SMALL_DONE}"],
-     ["a third or fourth coordinate is dropped: a", "scale 1, with 4 4 at 0 0"]),
+     ["a third or fourth coordinate is dropped: a", SMALL_AT]),
     ("a multipolygon in a line", "a MultiPolygonZM(((0 0 1 2,8 0 1 2,0 8 1 2,0 0 1 2)))", "", [f"a {SMALL_DONE}"],
-     ["a third or fourth coordinate is dropped: a", "scale 1, with 4 4 at 0 0"]),
+     ["a third or fourth coordinate is dropped: a", SMALL_AT]),
     ("the middle of several", f"a {SMALL}\nb POLYGON ((10 0, 12 0, 12 1, 10 0))", "",
      ["a POLYGON ((-6 -4, 2 -4, -6 4, -6 -4))", "b POLYGON ((4 -4, 6 -4, 6 -3, 4 -4))"], ["scale 1, with 6 4 at 0 0"]),
-    ("a geometry", json.dumps({"type": "Polygon", "coordinates": [SQUARE]}), "", [f"feature_1 {DONE}"], ["named by numbers", AT]),
+    ("a geometry", json.dumps({"type": "Polygon", "coordinates": [SQUARE]}), "", [f"feature_1 {DONE}"],
+     ["named by numbers", AT]),
     ("a feature", json.dumps(feature("p")), "", [f"p {DONE}"], [BY_ID, AT]),
     ("GeoJSON with a byte order mark", "\ufeff" + collection(feature("p")), "", [f"p {DONE}"], [BY_ID, AT]),
     ("an id, where properties are there", collection(feature("p", parcel="q", size=1.5)), "", [f"p {DONE}"],
      ["named by id; --name would take a property: parcel, size", AT]),
     ("a number as an id", collection(feature(17)), "", [f"_17 {DONE}"],
-     [BY_ID, "1 of 1 names are written in another form, as --table lists", AT]),
+     [BY_ID, f"1 of 1 {OTHER}", AT]),
     ("the only property that differs", collection(bare(parcel="q1", use="field"), bare(parcel="q2", use="field")), "",
      [f"q1 {DONE}", f"q2 {DONE}"], ["named by the property parcel", AT]),
     ("a property, where ids are equal", collection(feature("p", parcel="q1"), feature("p", parcel="q2")), "",
@@ -107,17 +118,18 @@ WRITTEN = [
     ("a property, where ids are missing", collection(feature("p", parcel="q1"), bare(parcel="q2")), "",
      [f"q1 {DONE}", f"q2 {DONE}"], ["named by the property parcel", AT]),
     ("no names by areas", collection(bare(area=1.5, no=7.0), bare(area=2.5, no=8)), "", [f"_7 {DONE}", f"_8 {DONE}"],
-     ["named by the property no", "2 of 2 names are written in another form, as --table lists", AT]),
+     ["named by the property no", f"2 of 2 {OTHER}", AT]),
     ("no names by yes and no", collection(bare(wet=True, no=7), bare(wet=False, no="r8")), "", [f"_7 {DONE}", f"r8 {DONE}"],
-     ["named by the property no", "1 of 2 names are written in another form, as --table lists", AT]),
+     ["named by the property no", f"1 of 2 {OTHER}", AT]),
     ("a property that is told", collection(feature("p", parcel="q", use="field")), "--name use", [f"field {DONE}"], [AT]),
     ("the id that is told", collection(feature("p", parcel="q")), "--name id", [f"p {DONE}"], [AT]),
     ("a property that stands twice", collection(bare(use="field"), bare(use="field")), "--name use",
      [f"field {DONE}", f"field_2 {DONE}"],
-     ["1 of 2 names are written in another form, as --table lists", "names that stand twice have a number: field", AT]),
+     [f"1 of 2 {OTHER}", "names that stand twice have a number: field", AT]),
     ("a property that one lacks", collection(bare(use="field"), bare(use=None), bare(use=" ")), "--name use",
      [f"field {DONE}", f"feature_2 {DONE}", f"feature_3 {DONE}"], [AT]),
-    ("no id and no property", collection(bare(), bare()), "", [f"feature_1 {DONE}", f"feature_2 {DONE}"], ["named by numbers", AT]),
+    ("no id and no property", collection(bare(), bare()), "", [f"feature_1 {DONE}", f"feature_2 {DONE}"],
+     ["named by numbers", AT]),
     ("some ids and no property", collection(feature("p"), bare()), "", [f"p {DONE}", f"feature_2 {DONE}"], [BY_ID, AT]),
     ("a multipolygon of one part", collection(feature("p", "MultiPolygon", [[SQUARE]])), "", [f"p {DONE}"], [BY_ID, AT]),
     ("a third and a fourth coordinate", collection(feature("p", coordinates=[HIGH]), feature("q")), "",
@@ -126,7 +138,8 @@ WRITTEN = [
      [f"p{k} {DONE}" for k in range(10)],
      [BY_ID, "a third or fourth coordinate is dropped: p0, p1, p2, p3, p4, p5, p6, p7 and 2 more", AT]),
     ("the largest part", collection(feature("isles", "MultiPolygon", [[SQUARE], [GREAT], [INNER]])), "--parts largest",
-     ["isles POLYGON ((-3 -3, 3 -3, 3 3, -3 3, -3 -3))"], [BY_ID, "the largest part is taken: isles", "scale 1, with 5 5 at 0 0"]),
+     ["isles POLYGON ((-3 -3, 3 -3, 3 3, -3 3, -3 -3))"],
+     [BY_ID, "the largest part is taken: isles", "scale 1, with 5 5 at 0 0"]),
     ("a part that is empty", collection(feature("isles", "MultiPolygon", [[], [SQUARE]])), "", [f"isles {DONE}"], [BY_ID, AT]),
     ("holes that are dropped", collection(feature("lake", coordinates=[SQUARE, INNER])), "--holes drop", [f"lake {DONE}"],
      [BY_ID, "holes are dropped: lake", AT]),
@@ -159,13 +172,13 @@ REFUSED = [
     ("no such property", collection(feature("p", parcel="q", use="u")), "--name plot",
      "plan: no feature has the property plot; there are: parcel, use"),
     ("no property at all", collection(feature("p")), "--name plot", "plan: no feature has the property plot; there are: none"),
-    ("a hole", collection(feature("lake", coordinates=[SQUARE, INNER])), "", "lake: it has a hole; --holes drop would take its outline alone"),
+    ("a hole", collection(feature("lake", coordinates=[SQUARE, INNER])), "", f"lake: {HOLE}"),
     ("a hole in a line", f"the lake {SMALL[:-1]}, (1 1, 2 1, 1 2, 1 1))", "",
-     "the lake: it has a hole; --holes drop would take its outline alone"),
+     f"the lake: {HOLE}"),
     ("a hole of the largest part", collection(feature("isles", "MultiPolygon", [[SQUARE], [GREAT, INNER]])), "--parts largest",
-     "isles: it has a hole; --holes drop would take its outline alone"),
+     f"isles: {HOLE}"),
     ("two parts", collection(feature("isles", "MultiPolygon", [[SQUARE], [SQUARE]])), "",
-     "isles: it has 2 parts; --parts largest would take the largest"),
+     f"isles: {PARTS}"),
     ("a line", collection(feature("road", "LineString", SQUARE)), "", "road: a LineString is no polygon"),
     ("a point in well-known text", "well POINT (1 1)", "", "well: a POINT is no polygon"),
     ("no geometry", collection(feature("ghost", None)), "", "ghost: it has no geometry"),
@@ -174,12 +187,12 @@ REFUSED = [
     ("an empty polygon", collection(feature("p", coordinates=[])), "", "p: it is empty"),
     ("an empty ring", collection(feature("p", coordinates=[[]])), "", "p: it is empty"),
     ("an empty polygon in a line", "p POLYGON EMPTY", "", "p: it is empty"),
-    ("a ring of bare numbers", collection(feature("p", coordinates=[[1, 2, 3]])), "", "p: a point of its ring doesn't have two coordinates"),
-    ("a ring that is a number", collection(feature("p", coordinates=[7])), "", "p: a point of its ring doesn't have two coordinates"),
-    ("one bracket too few", "p POLYGON (0 0, 9 0, 0 9, 0 0)", "", "p: a point of its ring doesn't have two coordinates"),
+    ("a ring of bare numbers", collection(feature("p", coordinates=[[1, 2, 3]])), "", f"p: {NO_POINT}"),
+    ("a ring that is a number", collection(feature("p", coordinates=[7])), "", f"p: {NO_POINT}"),
+    ("one bracket too few", "p POLYGON (0 0, 9 0, 0 9, 0 0)", "", f"p: {NO_POINT}"),
     ("a bracket that isn't closed", "p POLYGON ((0 0, 9 0, 0 9, 0 0)", "", "p: its brackets don't fit"),
     ("a point with one coordinate", collection(feature("p", coordinates=[[[1], *SQUARE]])), "",
-     "p: a point of its ring doesn't have two coordinates"),
+     f"p: {NO_POINT}"),
     ("a word for a number", collection(feature("p", coordinates=[[["x", 0], *SQUARE]])), "", "p: x is no number"),
     ("a word for a number in a line", "p POLYGON ((0 0, x 0, 0 9, 0 0))", "", "p: x is no number"),
     ("no number", collection(feature("p", coordinates=[[[float("nan"), 0], *SQUARE]])), "", "p: NaN is no number"),
@@ -197,7 +210,10 @@ REFUSED = [
     ("129 polygons", collection(*(feature(f"p{k}") for k in range(1, 131))), "",
      "there are 130 polygons, more than 128; the first too many is p129"),
     ("a ring that crosses itself", "tie POLYGON ((0 0, 0.5 0.5, 0.5 0, 0 0.5, 0 0))", "",
-     "tie: at the scale 10 its ring meets itself: the edge from 0 0 to 0.5 0.5 and the one from 0.5 0 to 0 0.5"),
+     "tie: its ring meets itself: the edge from 0 0 to 0.5 0.5 and the one from 0.5 0 to 0 0.5"),
+    ("a ring that crosses itself by rounding", "bay POLYGON ((0 0, 9 0, 9 9, 5 0.1, 0 9, 0 0))", "--scale 1",
+     "bay: its ring meets itself at the scale 1, but not before rounding: "
+     "the edge from 0 0 to 9 0 and the one from 9 9 to 5 0.1"),
 ]
 
 # what it shows, the ring, whether it meets itself where it may not
@@ -251,8 +267,8 @@ EXTENDED = [
      f"nodes 256\nnames ( {' '.join(f'n{k}' for k in range(255))} p )\n.\n", "1 of 1 polygons are further nodes"),
     ("257 nodes", f"nodes 255\nnames ( {' '.join(f'n{k}' for k in range(255))} )\n.\n", "p q",
      "257 nodes would be there, more than 256", ""),
-    ("numbers for names", "nodes 2\n0 1 ( EC )\n.\n", "p", "it has no line of names, and numbers in place of them can't be extended", ""),
-    ("numbers and no facts", "nodes 2\n", "p", "it has no line of names, and numbers in place of them can't be extended", ""),
+    ("numbers for names", "nodes 2\n0 1 ( EC )\n.\n", "p", NO_NAMES, ""),
+    ("numbers and no facts", "nodes 2\n", "p", NO_NAMES, ""),
     ("other many names", "nodes 3\nnames ( a b )\n.\n", "p", "it has 2 names for 3 nodes", ""),
     ("no network", "yes 3\nnodes 2\n", "p", "it doesn't begin with `nodes` and a number", ""),
     ("nothing", "", "p", "it doesn't begin with `nodes` and a number", ""),
@@ -275,7 +291,8 @@ def made(text, words=""):
 
 def written(labels):
     """The names that are written for those of a file."""
-    return [polygon.written for polygon in named([Feature(k, label, {}, None, None) for k, label in enumerate(labels, 1)], labels)]
+    features = [Feature(k, label, {}, None, None) for k, label in enumerate(labels, 1)]
+    return [polygon.written for polygon in named(features, labels)]
 
 
 def with_nodes(network, names):
@@ -324,17 +341,20 @@ def parcel_cases(program, room):
         text, told = made("\n".join(f"p{k} POLYGON (({', '.join(ring)}))" for k, ring in enumerate(rings)))
         (room / "parcels").write_text(text)
         expected = ["EC" if max(abs(a - c), abs(b - d)) == 1 else "DC" for (a, b), (c, d) in combinations(places, 2)]
-        yield f"parcels in {shows}", (relations(room / "parcels", program), told[-1].split(",")[0]), (expected, f"scale {scale}")
+        found = relations(room / "parcels", program)
+        yield f"parcels in {shows}", (found, told[-1].split(",")[0]), (expected, f"scale {scale}")
 
 
 def ring_cases(program, room):
-    """Rings by chance: the program refuses those that meet themselves, and no others."""
+    """Rings by chance: the program refuses those that meet themselves, at the same edges, and no others."""
     draw = random.Random(9)
     for place in range(200):
         points = draw.sample([(x, y) for x in range(5) for y in range(5)], draw.randrange(3, 8))
         ring = points + points[:1]
         (room / "ring").write_text("a POLYGON ((" + ", ".join(f"{x} {y}" for x, y in ring) + "))\n")
-        yield f"ring {place}: {points}", meeting(ring) is not None, run([program, "relate", room / "ring"])[1][:10] == b"refused 35"
+        found = meeting(ring)
+        expected = "refused 35 1 {} {}\n".format(*found) if found else ""
+        yield f"ring {place}: {points}", run([program, "relate", room / "ring"])[1].decode(), expected
 
 
 def bent_cases(program, room):
@@ -372,14 +392,18 @@ PROGRAM_CASES = (parcel_cases, ring_cases, bent_cases, example_cases)
 
 
 def layers():
-    """Layers of open data: what each is, its features, and the words for the tool."""
+    """Layers of open data: what each is, its features, the words for the tool, and whether rounding brings no two together."""
     import geopandas
     countries = geopandas.read_file(geopandas.datasets.get_path("naturalearth_lowres"))
     few = countries[[len(outline(shape).exterior.coords) <= 257 for shape in countries.geometry]]
-    for shows, layer in (("the first 128 countries", few.head(128)), ("the last 128 countries", few.tail(128))):
-        yield shows, layer, "--name name --parts largest --holes drop"
+    words = "--name name --parts largest --holes drop"
+    yield "the first 128 countries", few.head(128), words, False
+    yield "128 countries", few.iloc[20:148], words, True
+    yield "the last 128 countries", few.tail(128), f"{words} --scale 1000", False
+    yield "the countries of Africa", few[few.continent == "Africa"], f"{words} --scale 1000", True
+    yield "the countries of South America", few[few.continent == "South America"], words, True
     if COUNTIES.exists():
-        yield "the counties of North Carolina", geopandas.read_file(COUNTIES), "--name NAME --parts largest"
+        yield "the counties of North Carolina", geopandas.read_file(COUNTIES), "--name NAME --parts largest", True
 
 
 def outline(shape):
@@ -395,12 +419,15 @@ def shapes_of(text):
 
 
 def layer_cases(program, room):
-    """Layers of open data: the program tells the matrices of GEOS, of what is written and of the data."""
-    for shows, layer, words in layers():
+    """Layers of open data: the program tells the matrices of GEOS, of what is written and of the data as they are."""
+    for shows, layer, words, is_alike in layers():
         text, _ = made(layer.to_json(drop_id=True), words)
         (room / "layer").write_text(text)
         found = [line.split()[-2] for line in run([program, "relate", room / "layer"])[1].decode().splitlines()]
-        for kind, shapes in (("as it is written", shapes_of(text)), ("as it is", [outline(shape) for shape in layer.geometry])):
+        kinds = {"written": shapes_of(text)}
+        if is_alike:
+            kinds["as they are"] = [outline(shape) for shape in layer.geometry]
+        for kind, shapes in kinds.items():
             yield f"{shows}, {kind}", found, [a.relate(b) for a, b in combinations(shapes, 2)]
 
 
@@ -433,13 +460,13 @@ def file_cases(room):
     plan_file, network, names = room / "a.geojson", room / "a.net", room / "names"
     plan_file.write_text(collection(feature("H\u00f6fe\tS\u00fcd"), feature("b")), encoding="utf-8")
     network.write_bytes(b"\xef\xbb\xbfnodes 1 # \xff\r\nnames ( b )\n.\n")
-    other = "1 of 2 names are written in another form, as --table lists\n"
+    other = f"1 of 2 {OTHER}\n"
     yield "a table", run([TOOL, "--table", names, plan_file]), \
         (0, f"Hofe_Sud {DONE}\nb {DONE}\n".encode(), f"{BY_ID}\n{other}{AT}\n")
     yield "its lines", names.read_text(encoding="utf-8"), "name\toriginal\nHofe_Sud\tH\u00f6fe S\u00fcd\nb\tb\n"
     yield "a network with other bytes", run([TOOL, "--nodes", network, plan_file]), \
         (0, b"nodes 2 # \xff\r\nnames ( b Hofe_Sud )\n.\n", f"{BY_ID}\n{other}1 of 2 polygons are further nodes\n")
-    yield "standard input", run([TOOL, "-"], f"a {SMALL}".encode()), (0, f"a {SMALL_DONE}\n".encode(), "scale 1, with 4 4 at 0 0\n")
+    yield "standard input", run([TOOL, "-"], f"a {SMALL}".encode()), (0, f"a {SMALL_DONE}\n".encode(), f"{SMALL_AT}\n")
     plan_file.write_text(collection(feature("p")))
     (room / "b").write_text("p POLYGON ((10 0, 12 0, 12 2, 10 2, 10 0))\n")
     yield "two files", run([TOOL, plan_file, room / "b"]), \
@@ -450,7 +477,8 @@ def file_cases(room):
             ("a folder", ["docs"], "docs: it can't be read: Is a directory"),
             ("a missing network", ["--nodes", "none.net", plan_file], "none.net: it can't be read: No such file or directory"),
             ("no network", ["--nodes", plan_file, plan_file], f"{plan_file}: it doesn't begin with `nodes` and a number"),
-            ("a table in no folder", ["--table", "none/a", plan_file], "none/a: it can't be written: No such file or directory")):
+            ("a table in no folder", ["--table", "none/a", plan_file],
+             "none/a: it can't be written: No such file or directory")):
         yield shows, run([TOOL, *words]), (1, b"", f"refused: {sentence}\n")
     plan_file.write_bytes("p".encode("utf-16"))
     yield "a text that isn't UTF-8", run([TOOL, plan_file]), (1, b"", f"refused: {plan_file}: it isn't a text in UTF-8\n")
