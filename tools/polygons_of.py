@@ -69,7 +69,7 @@ def ask(holds, sentence):
         raise Refused(sentence)
 
 
-def listed(words, most=8):
+def some_of(words, most=8):
     """Some words, and how many more there are."""
     words = list(words)
     return ", ".join(words[:most]) + (f" and {len(words) - most} more" if len(words) > most else "")
@@ -102,7 +102,7 @@ class Notes:
         for names, said in ((self.high, "a third or fourth coordinate is dropped"), (self.parts, "the largest part is taken"),
                             (self.holes, "holes are dropped"), (self.open, "an open ring is closed")):
             if names:
-                self.say(f"{said}: {listed(names)}")
+                self.say(f"{said}: {some_of(names)}")
 
 
 # ---- reading
@@ -215,9 +215,9 @@ def naming_property(features):
     keys = properties_of(features)
     found = [key for key in keys if tells_apart([text_of(feature.properties.get(key)) for feature in features])
              and all(is_whole(feature.properties[key]) for feature in features)]
-    ask(len(found) < 2, f"several properties would do as names; --name has to tell which one: {listed(found, 40)}")
+    ask(len(found) < 2, f"several properties would do as names; --name has to tell which one: {some_of(found, 40)}")
     ask(found or not keys, "no property has another value for each feature; "
-                           f"--name may tell which one names them nevertheless: {listed(keys, 40)}")
+                           f"--name may tell which one names them nevertheless: {some_of(keys, 40)}")
     return found[0] if found else None
 
 
@@ -225,7 +225,7 @@ def labels_of(features, key, notes):
     """The name of each feature as its file has it, or none."""
     keys, ids = properties_of(features), [feature.id for feature in features]
     if key is None and any(ids) and (tells_apart(ids) or not keys):
-        notes.say("named by id" + (f"; --name would take a property: {listed(keys)}" if keys else ""))
+        notes.say("named by id" + (f"; --name would take a property: {some_of(keys)}" if keys else ""))
         return ids
     if key == "id" and key not in keys and any(ids):
         return ids
@@ -233,7 +233,7 @@ def labels_of(features, key, notes):
         key = naming_property(features)
         notes.say(f"named by the property {key}" if key is not None else "named by numbers")
     else:
-        ask(key in keys, f"no feature has the property {key}; there are: {listed(keys, 40) or 'none'}")
+        ask(key in keys, f"no feature has the property {key}; there are: {some_of(keys, 40) or 'none'}")
     return [text_of(feature.properties.get(key)) for feature in features]
 
 
@@ -251,7 +251,7 @@ def distinct(word, taken):
     return word if word not in taken else next(other for other in words if other not in taken)
 
 
-def named(features, labels):
+def with_names(features, labels):
     """The features with the names that are written. Labels that are names have them first."""
     taken, found, kept = {label for label in labels if label and is_name(label)}, [], set()
     for feature, label in zip(features, labels):
@@ -271,7 +271,7 @@ def say_names(polygons, notes):
     if other:
         notes.say(f"{other} of {len(polygons)} names are written in another form, as --table lists")
     if twice:
-        notes.say(f"names that stand twice have a number: {listed(twice)}")
+        notes.say(f"names that stand twice have a number: {some_of(twice)}")
 
 
 def features_of(name, key, notes):
@@ -286,7 +286,7 @@ def features_of(name, key, notes):
 def polygons_of(files, key, notes):
     """The features of all files with their names."""
     found = each(files, files, lambda name: features_of(name, key, notes))
-    polygons = named(*([entry for part in parts for entry in part] for parts in zip(*found)))
+    polygons = with_names(*([entry for part in parts for entry in part] for parts in zip(*found)))
     if len(polygons) > MOST_POLYGONS:
         raise Refused(f"there are {len(polygons)} polygons, more than {MOST_POLYGONS}; "
                       f"the first too many is {polygons[MOST_POLYGONS].label}")
@@ -306,8 +306,9 @@ def table(polygons):
 def coordinate(value):
     """A coordinate as a number."""
     value = number(value) if isinstance(value, str) else value
-    ask(isinstance(value, Decimal), f"{value} is no number")
-    ask(value.adjusted() < DIGITS_BEFORE and value.as_tuple().exponent >= -DIGITS_AFTER, f"{value} is beyond any plan")
+    ask(isinstance(value, Decimal), f"{value[:60] if isinstance(value, str) else 'a coordinate'} is no number")
+    within = value.adjusted() < DIGITS_BEFORE and value.as_tuple().exponent >= -DIGITS_AFTER
+    ask(within, f"{str(value)[:60]} is beyond any plan")
     return value
 
 
@@ -325,9 +326,9 @@ def area(points):
 
 def parts_of(feature):
     """The parts of a feature, each a list of rings."""
-    kind = str(feature.kind).upper()
-    ask(feature.kind is not None, "it has no geometry")
-    ask(kind in ("POLYGON", "MULTIPOLYGON"), f"a {feature.kind} is no polygon")
+    ask(isinstance(feature.kind, str), "it has no geometry")
+    kind = feature.kind.upper()
+    ask(kind in ("POLYGON", "MULTIPOLYGON"), f"a {feature.kind[:60]} is no polygon")
     parts = [feature.coordinates] if kind == "POLYGON" else feature.coordinates
     ask(isinstance(parts, list) and all(isinstance(part, list) for part in parts), "its brackets don't fit")
     return [part for part in parts if part]
@@ -431,7 +432,7 @@ def meeting(ring):
     return min(found, default=None)
 
 
-def closed(points, place=tuple):
+def closed_ring(points, place=tuple):
     """Points without those at the place of the one before, and the first one again at the end."""
     kept = [point for k, point in enumerate(points) if k == 0 or place(point) != place(points[k - 1])]
     return kept if place(kept[0]) == place(kept[-1]) else kept + kept[:1]
@@ -440,14 +441,14 @@ def closed(points, place=tuple):
 def ring_of(points, scale, middle):
     """A ring as whole numbers round the middle, whose last point is its first."""
     moved = [tuple(whole(value, scale) - zero for value, zero in zip(point, middle)) for point in points]
-    pairs = closed(list(zip(moved, points)), lambda pair: pair[0])
+    pairs = closed_ring(list(zip(moved, points)), lambda pair: pair[0])
     ring, vertices = [pair[0] for pair in pairs], len(pairs) - 1
     ask(vertices >= 3, f"at the scale {plain(scale)} fewer than 3 vertices are left")
     ask(vertices <= MOST_VERTICES, f"it has {vertices} vertices, more than {MOST_VERTICES}")
     found = meeting(ring)
     if found:
         one, two = (" to ".join(" ".join(map(plain, pairs[end][1])) for end in (e, e + 1)) for e in found)
-        only = "" if meeting(closed(points)) else f" at the scale {plain(scale)}, but not before rounding"
+        only = "" if meeting(closed_ring(points)) else f" at the scale {plain(scale)}, but not before rounding"
         raise Refused(f"its ring meets itself{only}: the edge from {one} and the one from {two}")
     return ring
 
@@ -472,7 +473,7 @@ def polygon_file(polygons, asked, notes):
 # ---- networks
 
 
-def extended(text, names, notes):
+def network_with(text, names, notes):
     """The text of a network with the names that it lacks as further nodes."""
     lines = text.split("\n")
     said = [line.split("#")[0] for line in lines]
@@ -505,7 +506,7 @@ def write_table(name, polygons):
         raise Refused(f"{name}: it can't be written: {fault.strerror}") from None
 
 
-def converted(asked):
+def answer_to(asked):
     """The text that is asked for, and what is told of it."""
     notes = Notes()
     with localcontext(Context(prec=4 * (DIGITS_BEFORE + DIGITS_AFTER))):
@@ -514,7 +515,7 @@ def converted(asked):
             text = polygon_file(polygons, asked, notes)
         else:
             names = [polygon.written for polygon in polygons]
-            text, = each([asked.nodes], [asked.nodes], lambda name: extended(read(name, "surrogateescape"), names, notes))
+            text, = each([asked.nodes], [asked.nodes], lambda name: network_with(read(name, "surrogateescape"), names, notes))
     if asked.table is not None:
         write_table(asked.table, polygons)
     return text, notes.said
@@ -535,7 +536,7 @@ def words_of(words=None):
 
 def main():
     try:
-        text, told = converted(words_of())
+        text, told = answer_to(words_of())
     except Refused as fault:
         print(f"refused: {fault}", file=sys.stderr)
         return 1

@@ -15,7 +15,7 @@ import tempfile
 from decimal import Decimal
 from itertools import combinations
 
-from polygons_of import Feature, Notes, Refused, converted, extended, is_name, meeting, named, words_of
+from polygons_of import Feature, Notes, Refused, answer_to, is_name, meeting, network_with, with_names, words_of
 
 TOOLS = pathlib.Path(__file__).resolve().parent
 TOP = TOOLS.parent
@@ -140,6 +140,9 @@ WRITTEN = [
     ("the largest part", collection(feature("isles", "MultiPolygon", [[SQUARE], [GREAT], [INNER]])), "--parts largest",
      ["isles POLYGON ((-3 -3, 3 -3, 3 3, -3 3, -3 -3))"],
      [BY_ID, "the largest part is taken: isles", "scale 1, with 5 5 at 0 0"]),
+    ("the largest part, the other way round", collection(feature("isles", "MultiPolygon", [[SQUARE], [GREAT[::-1]]])),
+     "--parts largest", ["isles POLYGON ((-3 -3, -3 3, 3 3, 3 -3, -3 -3))"],
+     [BY_ID, "the largest part is taken: isles", "scale 1, with 5 5 at 0 0"]),
     ("a part that is empty", collection(feature("isles", "MultiPolygon", [[], [SQUARE]])), "", [f"isles {DONE}"], [BY_ID, AT]),
     ("holes that are dropped", collection(feature("lake", coordinates=[SQUARE, INNER])), "--holes drop", [f"lake {DONE}"],
      [BY_ID, "holes are dropped: lake", AT]),
@@ -182,6 +185,8 @@ REFUSED = [
     ("a line", collection(feature("road", "LineString", SQUARE)), "", "road: a LineString is no polygon"),
     ("a point in well-known text", "well POINT (1 1)", "", "well: a POINT is no polygon"),
     ("no geometry", collection(feature("ghost", None)), "", "ghost: it has no geometry"),
+    ("no id, where it is told", collection(bare(no=7)), "--name id", "plan: no feature has the property id; there are: no"),
+    ("a type that is a number", collection({**feature("p"), "geometry": {"type": 7}}), "", "p: it has no geometry"),
     ("no coordinates", collection(feature("p", coordinates=None)), "", "p: its brackets don't fit"),
     ("a part that is none", collection(feature("p", "MultiPolygon", [7])), "", "p: its brackets don't fit"),
     ("an empty polygon", collection(feature("p", coordinates=[])), "", "p: it is empty"),
@@ -196,7 +201,8 @@ REFUSED = [
     ("a word for a number", collection(feature("p", coordinates=[[["x", 0], *SQUARE]])), "", "p: x is no number"),
     ("a word for a number in a line", "p POLYGON ((0 0, x 0, 0 9, 0 0))", "", "p: x is no number"),
     ("no number", collection(feature("p", coordinates=[[[float("nan"), 0], *SQUARE]])), "", "p: NaN is no number"),
-    ("nothing for a number", collection(feature("p", coordinates=[[[None, 0], *SQUARE]])), "", "p: None is no number"),
+    ("nothing for a number", collection(feature("p", coordinates=[[[None, 0], *SQUARE]])), "", "p: a coordinate is no number"),
+    ("a list for a number", collection(feature("p", coordinates=[[[[1, 2], 0], *SQUARE]])), "", "p: a coordinate is no number"),
     ("a number beyond all plans", "p POLYGON ((0 0, 1e30 0, 0 9, 0 0))", "", "p: 1E+30 is beyond any plan"),
     ("too many decimals", "p POLYGON ((0 0, 1e-401 0, 0 9, 0 0))", "", "p: 1E-401 is beyond any plan"),
     ("a number beyond all numbers", f"p POLYGON ((0 0, 1e{'9' * 30} 0, 0 9, 0 0))", "", f"p: 1e{'9' * 30} is no number"),
@@ -229,6 +235,7 @@ RINGS = [
     ("a thorn at the end", "0 0, 4 0, 0 4, 0 -3", True),
     ("points of a line", "0 0, 2 0, 4 0", True),
     ("edges one over another", "0 0, 4 0, 4 4, 3 4, 3 0, 1 0, 1 4, 0 4", True),
+    ("edges of a line, apart", "0 0, 2 0, 2 2, 4 2, 4 0, 6 0, 6 4, 0 4", False),
     ("far to the right", "0 0, 9 0, 9 9, 8 -1, 0 9", True),
 ]
 
@@ -284,7 +291,7 @@ def made(text, words=""):
         path = pathlib.Path(room) / "plan"
         path.write_text(text, encoding="utf-8", newline="")
         try:
-            return converted(words_of([*words.split(), str(path)]))
+            return answer_to(words_of([*words.split(), str(path)]))
         except Refused as fault:
             return str(fault).replace(str(path), "plan")
 
@@ -292,14 +299,14 @@ def made(text, words=""):
 def written(labels):
     """The names that are written for those of a file."""
     features = [Feature(k, label, {}, None, None) for k, label in enumerate(labels, 1)]
-    return [polygon.written for polygon in named(features, labels)]
+    return [polygon.written for polygon in with_names(features, labels)]
 
 
 def with_nodes(network, names):
     """The network with the names, and what is told, or why there is none."""
     notes = Notes()
     try:
-        return extended(network, names.split(), notes), *notes.said
+        return network_with(network, names.split(), notes), *notes.said
     except Refused as fault:
         return str(fault), ""
 
@@ -463,7 +470,7 @@ def file_cases(room):
     other = f"1 of 2 {OTHER}\n"
     yield "a table", run([TOOL, "--table", names, plan_file]), \
         (0, f"Hofe_Sud {DONE}\nb {DONE}\n".encode(), f"{BY_ID}\n{other}{AT}\n")
-    yield "its lines", names.read_text(encoding="utf-8"), "name\toriginal\nHofe_Sud\tH\u00f6fe S\u00fcd\nb\tb\n"
+    yield "its lines", names.read_bytes().decode(), "name\toriginal\nHofe_Sud\tH\u00f6fe S\u00fcd\nb\tb\n"
     yield "a network with other bytes", run([TOOL, "--nodes", network, plan_file]), \
         (0, b"nodes 2 # \xff\r\nnames ( b Hofe_Sud )\n.\n", f"{BY_ID}\n{other}1 of 2 polygons are further nodes\n")
     yield "standard input", run([TOOL, "-"], f"a {SMALL}".encode()), (0, f"a {SMALL_DONE}\n".encode(), f"{SMALL_AT}\n")
