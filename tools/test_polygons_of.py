@@ -513,7 +513,7 @@ def main():
                 if found != expected:
                     failed += 1
                     print(f"{shows}: {str(found)[:600]!r} in place of {str(expected)[:600]!r}")
-    print(f"{count - failed} passed, {failed} failed, {skipped} groups skipped")
+    print(f"{count - failed} passed, {failed} failed, {skipped} skipped")
     return 1 if failed else 0
 
 
