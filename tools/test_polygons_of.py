@@ -1,5 +1,5 @@
 #!/usr/bin/env python3
-"""Tests of polygons_of.py. The last line is 'N passed, N failed, N groups skipped'.
+"""Tests of polygons_of.py. The last line is 'N passed, N failed, N skipped'.
 
 Usage: tools/test_polygons_of.py [PROGRAM]
 
