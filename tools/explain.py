@@ -131,9 +131,9 @@ def near(word, choices):
     def plain(text):
         return text.lower().replace("-", "").replace("_", "")
     plains = {plain(choice): choice for choice in reversed(choices)}
-    same = [choice for choice in choices if plain(choice) == plain(word)] or [c for c in choices if c.startswith(f"{word}.")]
-    found = difflib.get_close_matches(plain(word), list(plains), 1, 0.76)
-    return same[0] if same else plains[found[0]] if found else None
+    found = [plains[plain(word)]] if plain(word) in plains else [choice for choice in choices if choice.startswith(f"{word}.")]
+    found += [plains[text] for text in difflib.get_close_matches(plain(word), list(plains), 1, 0.76)]
+    return found[0] if found else None
 
 
 def meant(word, choices):
@@ -212,7 +212,7 @@ class Asked:
         elif extra:
             reads = self.command not in ("relate", "scene", "demo") and not os.path.exists(extra[-1])
             self.found(f"'{extra[0]}' is one word more than {self.command} takes: {self.command} {self.usage}"
-                       + (f"; no such file: {extra[-1]}" if reads else ""))
+                       + (f"; no such file: {extra[-1]}{meant(extra[-1], files_beside(extra[-1]))}" if reads else ""))
 
     def test_values(self):
         for name, value in [*zip(self.kinds, self.places), *self.given.items()]:
@@ -308,7 +308,7 @@ class Line:
 
     def take_names(self, form, example):
         """The names in brackets that are next."""
-        self.take_mark(form, "(", f"this stands in brackets with blanks between, as {example}")
+        self.take_mark(form, "(", f"here begin names in brackets, with blanks between, as in {example}")
         names = []
         while self.peek() != ")":
             if self.peek() is None:
@@ -437,6 +437,11 @@ def no_relation(number, token, calculus, bases):
     return Fault(number, f"'{token.text}' is no base relation of {calculus}{question}{listed}", token[1:])
 
 
+def set_like(bases):
+    """An example of a set."""
+    return f"the set ( {' '.join(bases[:2] or 'AB')} )"
+
+
 def test_relations(number, tokens, calculus, bases):
     for token in tokens:
         if bases and token.text not in bases:
@@ -540,7 +545,7 @@ def node_of(line, token, nodes, names):
 
 def test_fact(line, nodes, names, calculus, bases):
     pair = [take_node(line, names), take_node(line, names)]
-    found = line.take_names(18, f"( {' '.join(bases[:2] or 'AB')} )")
+    found = line.take_names(18, set_like(bases))
     line.end(18)
     i, j = (node_of(line, token, nodes, names) for token in pair)
     if i == j:
@@ -609,7 +614,7 @@ def test_class(text, at, calculus, bases):
         raise Fault(21, 'the end line "." is missing')
     line.test_bytes(21)
     test_end(21, text, line)
-    found = line.take_names(21, f"( {' '.join(bases[:2] or 'AB')} )")
+    found = line.take_names(21, set_like(bases))
     line.end(21)
     test_relations(21, found, calculus, bases)
 
@@ -706,7 +711,7 @@ def test_script(line, nodes, calculus, bases, number):
         question = meant(verb.text, kinds) or "; it is assert, peek, withdraw or ask"
         line.refuse(48, f"'{verb.text}' is nothing that a session does{question}", verb[1:])
     numbers = take_numbers(line, verb.text)
-    found = line.take_names(48, f"( {' '.join(bases[:2] or 'AB')} )") if verb.text == "assert" else []
+    found = line.take_names(48, set_like(bases)) if verb.text == "assert" else []
     line.end(48)
     if number in (44, 45, 46, 47):
         raise Fault(number, {
@@ -884,14 +889,19 @@ def script_messages(answer, asked, source):
     return messages
 
 
+def files_beside(name):
+    """The files in the folder where a name says that one is."""
+    folder = os.path.dirname(name)
+    return [os.path.join(folder, file) for file in sorted(os.listdir(folder or "."))] if os.path.isdir(folder or ".") else []
+
+
 def no_file(asked, kind, name):
     """What is said of a file that isn't there: what it may have been meant to be, too."""
     classes = [*(RCC8_CLASSES if asked.name("table") == "rcc8" else ()), "none"]
     choices = {"table": list(BASES), "class": classes}.get(kind, [])
-    folder = os.path.dirname(name)
-    files = [os.path.join(folder, file) for file in sorted(os.listdir(folder or "."))] if os.path.isdir(folder or ".") else []
-    built_in = f"no {'calculus' if kind == 'table' else kind} {' or '.join(choices)}, and " if choices else ""
-    return f"{built_in}no such file: {name}{meant(name, choices) or meant(name, files)}"
+    listed = " or ".join(([", ".join(choices[:-1])] if choices[1:] else []) + choices[-1:])
+    built_in = f"no {'calculus' if kind == 'table' else kind} {listed}, and " if choices else ""
+    return f"{built_in}no such file: {name}{meant(name, choices) or meant(name, files_beside(name))}"
 
 
 def unread(asked, source):
