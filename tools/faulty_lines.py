@@ -40,7 +40,7 @@ def near(word, choices):
         return text.lower().replace("-", "").replace("_", "")
     plains = {plain(choice): choice for choice in reversed(choices)}
     found = [plains[plain(word)]] if plain(word) in plains else [choice for choice in choices if choice.startswith(f"{word}.")]
-    found += [plains[text] for text in difflib.get_close_matches(plain(word), list(plains), 1, 0.76)]
+    found += [plains[text] for text in difflib.get_close_matches(plain(word), list(plains), 1, 0.74)]
     return found[0] if found else None
 
 
