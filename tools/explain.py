@@ -80,7 +80,7 @@ REFUSALS = """\
 51|certificate|node step|this step, counted from 0, isn't of three different nodes of the network
 52|polygons||it has no polygon, and a scene has one at least
 """
-# The words that each command takes, as docs/FORMATS.md has them.
+# The words that each command takes, as docs/FORMATS.md has them, and the commands that read no source.
 COMMANDS = {
     "close": "CALC [--workers N]",
     "solve": "CALC [--class C] [--polygons P] [--budget N] [--workers N] [--cert]",
@@ -92,6 +92,7 @@ COMMANDS = {
     "serve": "CALC NODES [--workers N]",
     "demo": "SEED NODES",
 }
+SOURCELESS = ("relate", "scene", "demo")
 SCRIPT_WORDS = ("help", "--help", "--version", "--build", "--test", "--install")
 MEANINGS = {"CALC": "a calculus", "CERT": "a certificate", "P": "a polygon file", "NODES": "the number of nodes",
             "SEED": "a seed"}
@@ -127,6 +128,7 @@ class Asked:
         self.test_values()
 
     def found(self, sentence):
+        """Keeps what isn't understood first."""
         self.fault = self.fault or sentence
 
     def read_command(self):
@@ -158,7 +160,7 @@ class Asked:
                 self.found(f"{name} has no value")
         elif not equals:
             value = next(rest, None)
-            if value is None or value.startswith("-") and value != "" or value == "":
+            if not value or value.startswith("-"):
                 self.found(f"{name} wants a value: {name} {self.options[name]}")
         self.given[name] = value or ""
 
@@ -167,7 +169,7 @@ class Asked:
         if missing:
             self.found(f"{self.command} wants {MEANINGS[missing[0]]}: {self.command} {self.usage}")
         elif extra:
-            reads = self.command not in ("relate", "scene", "demo") and not os.path.exists(extra[-1])
+            reads = self.command not in SOURCELESS and not os.path.exists(extra[-1])
             self.found(f"'{extra[0]}' is one word more than {self.command} takes: {self.command} {self.usage}"
                        + (f"; no such file: {extra[-1]}{meant_file(extra[-1])}" if reads else ""))
 
@@ -208,9 +210,11 @@ class Asked:
     def bases(self):
         """The base relations of the calculus, where they can be told."""
         name = self.name("table")
-        text = None if name in BASES else text_of(name)
-        line = text and next(text.filled(), None)
-        return BASES.get(name) or [t.text for t in line.tokens[1:] if t.text not in "()"] if name in BASES or line else []
+        if name in BASES:
+            return BASES[name]
+        text = text_of(name)
+        line = next(text.filled(), None) if text else None
+        return [token.text for token in line.tokens[1:] if token.text not in "()"] if line else []
 
 
 # ---- texts
@@ -261,7 +265,8 @@ def shown(number, data, spans):
     cells = cells[start:start + WIDEST]
     text = before + "".join(cell[0] for cell in cells).rstrip() + after
     marks = " " * len(before) + "".join(cell[1] for cell in cells)
-    return f"{number:>6} | {text}" + (f"\n{'':>6} | {marks.rstrip()}" if "^" in marks else "")
+    head = f"{number:>6}"
+    return f"{head} | {text}" + (f"\n{'':>{len(head)}} | {marks.rstrip()}" if "^" in marks else "")
 
 
 # ---- messages
@@ -341,7 +346,7 @@ def line_fault(text, number, kind, place, asked):
         return named_fault(text, number, place)
     if number == 20 and not text.parts:
         return None, Fault(20, "the network is empty; it begins with a line 'nodes N' and ends with a line \".\"")
-    if not text.line(at):
+    if not (text.line(at) and text.line(at).tokens):
         return None, None
     look = {
         "network": (look_at_network, text, at, calculus, bases),
@@ -362,7 +367,7 @@ def refusal(number, place, asked, source):
     name = source.name if kind == "network" else asked.name(kind)
     if kind == "pattern":
         marked = shown("", name.encode("utf-8", "surrogateescape"), [(place[0], place[0] + 1)])
-        return [f"{name}, {where[0]}: {sentence}\n{marked}"]
+        return [f"{name or 'the pattern'}, {where[0]}: {sentence}\n{marked}"]
     text = source.text if kind == "network" else None if asked.is_built_in(kind) else text_of(name)
     at = fault = line = None
     if text and (kinds[:1] == ["line"] or number in (4, 20, 31, 43)):
@@ -438,32 +443,31 @@ def no_file(asked, kind, name):
 
 
 def unread(asked, source):
-    """Which input can't be read."""
+    """Which input can't be read, if that is to be seen."""
     for kind, name in asked.files():
         if not os.path.exists(name):
             return no_file(asked, kind, name)
         if os.path.isdir(name) or not os.access(name, os.R_OK):
             return f"{name} is a folder, and no file" if os.path.isdir(name) else f"{name} can't be read"
+    if asked.command in SOURCELESS:
+        return None
     is_folder = source.mode and stat.S_ISDIR(source.mode.st_mode)
     return (source.name or "standard input") + (" is a folder, and no file" if is_folder else " can't be read")
 
 
 def too_long(asked, source):
-    """Which input has too many bytes."""
+    """Which input has too many bytes, if that is to be seen."""
     for _, name in asked.files():
         if os.path.isfile(name) and os.path.getsize(name) > MOST_BYTES:
             return f"{name} has more than {MOST_BYTES:,} bytes"
-    return f"{source.name or 'standard input'} has more than {MOST_BYTES:,} bytes"
+    return None if asked.command in SOURCELESS else f"{source.name or 'standard input'} has more than {MOST_BYTES:,} bytes"
 
 
 def status_messages(status, answer, asked, source):
     """What says why the program ended with this status, or nothing."""
-    if status == 2:
-        return [asked.fault] if asked.fault else []
-    if status == 4:
-        return [unread(asked, source)]
-    if status == 9:
-        return [too_long(asked, source)]
+    if status in (2, 4, 9):
+        said = asked.fault if status == 2 else unread(asked, source) if status == 4 else too_long(asked, source)
+        return [said] if said else []
     words = answer.readline().split()
     begins = {3: [b"refused"], 8: [b"not", b"accepted"]}.get(status)
     if not begins or words[:len(begins)] != begins:

@@ -19,7 +19,7 @@ TOKEN = re.compile(r"::|[():,]|[^ \t():,]+")
 NUMBER = re.compile(r"[0-9]{1,18}")
 WHOLE = re.compile(r"[+-]?[0-9]{1,18}(\.0+)?")
 DECIMAL = re.compile(r"[+-]?([0-9]+\.?[0-9]*|\.[0-9]+)([eE][+-]?[0-9]+)?")
-END_LINE = re.compile(rb"(?m)^[ \t]*\.[ \t]*(#.*)?\r?$")
+END_LINE = re.compile(rb"(?m)^[ \t]*\.[ \t]*(#.*)?$")
 
 Token = namedtuple("Token", "text start end")
 
@@ -181,8 +181,9 @@ class Text:
 
     def end_line(self, number):
         """The first end line before a line, or nothing."""
-        match = END_LINE.search(b"\n".join(self.parts[:number - 1]) + b"\n" if number > 1 else b"")
-        return self.data.count(b"\n", 0, self.data.index(match.group())) + 1 if match and match.group() else None
+        before = b"\n".join(self.parts[:number - 1])
+        match = END_LINE.search(before)
+        return before.count(b"\n", 0, match.start()) + 1 if match else None
 
 
 # ---- what is wrong with a line, in the order in which the program tests it

@@ -99,7 +99,7 @@ LINES = [
      "line 2: the bracket \")\" is missing here"),
     ("18 2", "close rcc8", "nodes 2|0 1 ( EC ) ‹.›|.",
      "line 2: the end line \".\" stands on a line of its own"),
-    ("18 4", "close rcc8", "nodes 2|.|# end|‹0 1 ( EC )›",
+    ("18 4", "close rcc8", "nodes 2# a.b|.|# end|‹0 1 ( EC )›",
      "line 4: the text has ended with the \".\" of line 2"),
     ("18 1", "close rcc8", "‹29› # a graph|.",
      "line 1: a network begins with a line 'nodes N'; this looks like a file of GQR, which begins with its "
@@ -184,6 +184,7 @@ UNREAD = [
     ("intervals --class ord_horn", "no class none, and no such file: ord_horn"),
     ("check rcc8 my.cert --polygons p", "no such file: my.cert"),
     ("relate folder", "folder is a folder, and no file"),
+    ("relate a.net", None),
     ("close rcc8", "standard input can't be read"),
 ]
 
@@ -244,6 +245,8 @@ def cases():
         ["4 more lines were refused"]
     yield "a pattern", refusal(37, [2], Asked("relate p --pattern T*X".split()), Given(b"")), \
         ["T*X, place 2: here, counted from 0, it isn't nine of T, F, *, 0, 1 and 2\n       | T*X\n       |   ^"]
+    yield "an empty pattern", refusal(37, [0], Asked(["relate", "p", "--pattern="]), Given(b"")), \
+        ["the pattern, place 0: here, counted from 0, it isn't nine of T, F, *, 0, 1 and 2\n       | \n       | ^"]
     yield "a source that can't be read again", refusal(19, [3], Asked(["close", "rcc8"]), Given(None)), \
         ["line 3: a name that is no base relation of rcc8, or no node"]
     yield "an empty network", refusal(20, [0], Asked(["close", "rcc8"]), Given(b"")), \
