@@ -415,7 +415,7 @@ def main():
             if found != expected:
                 failed += 1
                 print(f"{shows}: {found!r} in place of {expected!r}")
-    print(f"{count - failed} passed, {failed} failed, {skipped} networks skipped")
+    print(f"{count - failed} passed, {failed} failed, {skipped} skipped")
     return 1 if failed else 0
 
 
