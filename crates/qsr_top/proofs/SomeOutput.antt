@@ -93,7 +93,8 @@ output_there _ documents bytes fits none there = absurd none
 module _ (asked : SceneAsked) (documents : Documents) (bytes : List ℕ) where
   drawn_out : There (DocumentsGive (scene asked) documents) AreOfSomeFile →
       (HasOutput (Some (scene asked)) documents bytes → ⊥) → ⊥
-  drawn_out (stops cause h) none = none (stopped_out (scene asked) documents bytes AreOfSomeFile (λ g r. ⊤) cause (inl h))
+  drawn_out (stops cause h) none =
+      none (stopped_out (scene asked) documents bytes AreOfSomeFile (λ g r. ⊤) cause (inl h))
   drawn_out (value polygons h are) none =
       draws polygons (file-regions are.bytes polygons are.are) (λ made.
       none (worked_out (scene asked) documents bytes AreOfSomeFile (λ g r. ⊤) (record { given = polygons; read = tt })

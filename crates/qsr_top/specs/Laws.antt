@@ -40,8 +40,8 @@ pub record HasOutput (asked : Option Asked) (documents : Documents) (bytes : Lis
   pub status : Status
   pub output : Output asked documents bytes text status
 
--- and one text and one status at least, where the named documents are there, class and polygons fit, no polygons are asked
--- for, and no script is answered
+-- and one text and one status at least, where the named documents are there, class and polygons fit, no polygons are
+-- asked for, and no script is answered
 abbrev pub OutputIsThere : Type 0
 OutputIsThere = (asked : Option Asked) (documents : Documents) (bytes : List ℕ) →
     FitsCalculus asked → HasNoPolygons asked → HasNamedDocuments asked documents → HasOutput asked documents bytes
