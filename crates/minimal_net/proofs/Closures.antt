@@ -15,8 +15,8 @@ use Rattle.split_search.specs.Ruled.{HasTree}
 use Rattle.split_search.proofs.Networks.{closure-network}
 use Rattle.minimal_net.specs.Labels.{set_to}
 use Rattle.minimal_net.specs.Laws.{SameClosureSameVerdict, ClosureSetTo, LabelOfClosure}
-use Rattle.minimal_net.proofs.SetEdges.{meet_at, set_to-here, set_to-refines, set_to-keeps, set_to-network}
-use Rattle.minimal_net.proofs.SetEdges.{network-edge}
+use Rattle.split_search.proofs.SetEdges.{meet_at, set_to-here, set_to-refines, set_to-network, network-edge}
+use Rattle.minimal_net.proofs.SetEdges.{set_to-keeps}
 
 same-tree : (m : Algebra) (n : ℕ) (words others closure : List ℕ) (nodes : List TreeNode)
     (P : List ℕ → NestedTree → Type 0) → IsClosure m n words closure → IsClosure m n others closure →

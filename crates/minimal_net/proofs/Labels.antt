@@ -14,14 +14,15 @@ use Rattle.split_search.specs.Verdicts as verdicts
 use Rattle.split_search.specs.Verdicts.{AreSearched}
 use Rattle.split_search.proofs.OneVerdict.{verdict_one}
 use Rattle.split_search.proofs.SomeVerdict.{verdict_exists}
-use Rattle.split_search.proofs.Products.{budget_suffices}
+use Rattle.split_search.proofs.Products.{product_suffices}
 use Rattle.split_search.proofs.Refuted.{no_refutation}
 use Rattle.split_search.proofs.Truths.{verdict-true}
 use Rattle.minimal_net.specs.declared.label.Label.{Label}
 use Rattle.minimal_net.specs.declared.label.Label.TheVariants.{Held}
 use Rattle.minimal_net.specs.Labels.{set_to, label_of, HasAt, IsTrueOf, nodes_of}
 use Rattle.minimal_net.specs.Laws.{LabelIsOne, LabelExists, LabelIsTrue, SeenIsHeld}
-use Rattle.minimal_net.proofs.SetEdges.{set_to-network, HasAt-from_set, IsScenario-set_to}
+use Rattle.split_search.proofs.SetEdges.{set_to-network}
+use Rattle.minimal_net.proofs.SetEdges.{HasAt-from_set, IsScenario-set_to}
 
 IsTrueOf-label_of : (m : Algebra) (n : ℕ) (words : List ℕ) (e base budget : ℕ) → IsCalculus m → IsNetwork m n words →
     e < edge_count n → (v : Verdict) → verdicts.IsTrueOf m n (set_to words e base) budget v →
@@ -105,7 +106,7 @@ seen-held m n class budget words e base relations closure calculus net bases bel
     (IsScenario-set_to m n words e base relations net below h))
 seen-held m n class budget words e base relations closure calculus net bases below h is few (Budget nodes) v =
     let own = set_to-network m n words e base net below in
-    absurd (budget_suffices m n class budget (set_to words e base) closure nodes calculus own bases is few v)
+    absurd (product_suffices m n class budget (set_to words e base) closure nodes calculus own bases is few v)
 
 pub seen_held : SeenIsHeld
 seen_held m n class budget words e base relations closure label calculus net bases below h is few l =

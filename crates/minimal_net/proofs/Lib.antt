@@ -1,10 +1,13 @@
 mod SetEdges
 mod Labels
 mod Closures
-mod Labelled
-mod Least
-mod Straight
-mod ClassClosures
-mod Severals
-mod FirstSingles
-mod EarlyEnds
+pub mod Labelled
+mod StraightLabels
+mod LabelsOfEdges
+pub mod NetworkLabels
+mod Leading
+mod Steps
+mod Outcomes
+mod Shares
+mod Counting
+mod Leaving

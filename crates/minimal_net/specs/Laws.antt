@@ -1,5 +1,5 @@
 -- What holds of labels, and over straight classes.
-use Rattle.std.specs.Prelude.{◌≡◌, ℕ, ◌+◌, ◌<◌, ◌≤◌, ◌↔◌, List, length, All, Contains}
+use Rattle.std.specs.Prelude.{◌≡◌, ℕ, ◌+◌, ◌<◌, ◌≤◌, ◌↔◌, List, All, Contains}
 use Rattle.calculus_table.specs.Algebra.{Algebra}
 use Rattle.calculus_table.specs.Calculus.{IsCalculus, EachBase}
 use Rattle.network_words.specs.Edge.{edge_count}
@@ -7,15 +7,17 @@ use Rattle.network_words.specs.Network.{IsNetwork}
 use Rattle.network_words.specs.Closure.{IsClosure}
 use Rattle.network_words.specs.Scenario.{IsScenario}
 use Rattle.tract_classes.specs.Class.{IsClass, HasBase, IsClosedClass}
-use Rattle.split_trees.specs.Tree.{TreeNode, NestedTree}
 use Rattle.split_search.specs.declared.verdict.Verdict.{Verdict}
-use Rattle.split_search.specs.declared.verdict.Verdict.TheVariants.{Yes}
-use Rattle.split_search.specs.Ruled.{IsVerdict, product, at_scenario, Ends, splits}
+use Rattle.split_search.specs.Ruled.{IsVerdict, product}
 use Rattle.minimal_net.specs.declared.label.Label.{Label}
 use Rattle.minimal_net.specs.declared.label.Label.TheVariants.{Held}
 use Rattle.minimal_net.specs.Labels.{set_to, IsLabel, HasAt, IsTrueOf}
+use Rattle.minimal_net.specs.declared.edge_labels.EdgeLabels.{EdgeLabels}
+use Rattle.minimal_net.specs.declared.outcome.Outcome.TheVariants.{Open}
+use Rattle.minimal_net.specs.NetworkLabels.{AreLabels, count_of, left_of}
 use Rattle.minimal_net.specs.Minimal.{IsLabelled, HasNoOpen, IsMinimal}
-use Rattle.minimal_net.specs.Straight.{AreLeast, IsStraight, IsClosedOver, several_count}
+use Rattle.tract_classes.specs.Straight.{IsStraight}
+use Rattle.split_search.specs.Straight.{AreLeast, several_count}
 
 -- ---- labels
 
@@ -83,50 +85,54 @@ LabelledIsMinimal =
     (l : IsLabelled m n class budget words written) → IsCalculus m → IsNetwork m n words → IsClass class →
     EachBase m (HasBase class) → HasNoOpen m n class budget words l.closure → IsMinimal m n words written
 
+-- ---- the labels of a network
+
+-- a network has one list of labels at most
+abbrev pub LabelsAreOne : Type 0
+LabelsAreOne =
+    (m : Algebra) (n : ℕ) (class : List ℕ) (budget : ℕ) (words closure : List ℕ) (ks ls : List EdgeLabels) →
+    AreLabels m n class budget words closure ks → AreLabels m n class budget words closure ls → ks ≡ ls
+
+-- and has one
+abbrev pub LabelsExist : Type 0
+LabelsExist =
+    (m : Algebra) (n : ℕ) (class : List ℕ) (budget : ℕ) (words closure : List ℕ) → IsCalculus m → IsNetwork m n words →
+    IsClass class → EachBase m (HasBase class) → IsClosure m n words closure →
+    (labels : List EdgeLabels) × AreLabels m n class budget words closure labels
+
+-- they are those of its closure
+abbrev pub LabelsOfClosure : Type 0
+LabelsOfClosure =
+    (m : Algebra) (n : ℕ) (class : List ℕ) (budget : ℕ) (words closure : List ℕ) (labels : List EdgeLabels) →
+    IsCalculus m → IsNetwork m n words → IsClosure m n words closure →
+    AreLabels m n class budget closure closure labels → AreLabels m n class budget words closure labels
+
+-- without the refuted base relations they leave the closure without these
+abbrev pub LabelsLeave : Type 0
+LabelsLeave =
+    (m : Algebra) (n : ℕ) (class : List ℕ) (budget : ℕ) (words closure : List ℕ) (labels : List EdgeLabels) →
+    IsCalculus m → IsNetwork m n words → IsClass class → EachBase m (HasBase class) → IsClosure m n words closure →
+    AreLabels m n class budget words closure labels → IsLabelled m n class budget words (left_of labels)
+
+-- where none of them is open they leave the minimal network
+abbrev pub LabelsAreMinimal : Type 0
+LabelsAreMinimal =
+    (m : Algebra) (n : ℕ) (class : List ℕ) (budget : ℕ) (words closure : List ℕ) (labels : List EdgeLabels) →
+    IsCalculus m → IsNetwork m n words → IsClass class → EachBase m (HasBase class) → IsClosure m n words closure →
+    AreLabels m n class budget words closure labels → count_of Open labels ≡ 0 → IsMinimal m n words (left_of labels)
+
 -- ---- straight classes
 
--- a network without an empty set has least base relations
-abbrev pub LeastExist : Type 0
-LeastExist =
-    (n : ℕ) (words : List ℕ) → length words ≡ edge_count n → ¬ Contains words 0 →
-    (relations : List ℕ) × AreLeast n words relations
-
--- and one list of them at most
-abbrev pub LeastAreOne : Type 0
-LeastAreOne =
-    (n : ℕ) (words relations others : List ℕ) → AreLeast n words relations → AreLeast n words others →
-    relations ≡ others
-
--- the least base relations of a closed network over a straight class are a scenario
-abbrev pub LeastAreScenario : Type 0
-LeastAreScenario =
-    (m : Algebra) (n : ℕ) (class words relations : List ℕ) → IsStraight m class → IsClosedOver m n class words →
-    AreLeast n words relations → IsScenario m n words relations
-
--- so those of the closure of a network with an edge set to a base relation are one that has it there
+-- the least base relations of the closure of a network with an edge set to a base relation are a scenario of the network that has it
+-- there, over a straight class
 abbrev pub StraightHasAt : Type 0
 StraightHasAt =
     (m : Algebra) (n : ℕ) (class words : List ℕ) (e base : ℕ) (closure relations : List ℕ) → IsStraight m class →
     IsNetwork m n words → e < edge_count n → IsClosure m n (set_to words e base) closure →
     All (Contains class) closure → AreLeast n closure relations → HasAt m n words e base relations
 
--- over a straight class that is closed, the ruled tree of a closed network ends at its least base relations, with as
--- many splits at most as the network has edges with several base relations
-abbrev pub StraightTreeEnds : Type 0
-StraightTreeEnds =
-    (m : Algebra) (n : ℕ) (class words relations : List ℕ) → IsCalculus m → IsClosedClass m class →
-    IsStraight m class → IsClosedOver m n class words → AreLeast n words relations →
-    (tree : NestedTree) × Ends m n class (at_scenario relations) words tree × (splits tree ≤ several_count words)
-
--- so with as large a budget a network whose closure is over the class is a yes with these
-abbrev pub StraightIsYes : Type 0
-StraightIsYes =
-    (m : Algebra) (n : ℕ) (class : List ℕ) (budget : ℕ) (words closure relations : List ℕ) (v : Verdict) →
-    IsCalculus m → IsClosedClass m class → IsStraight m class → IsNetwork m n words → IsClosure m n words closure →
-    All (Contains class) closure → AreLeast n closure relations → several_count closure ≤ budget →
-    IsVerdict m n class budget words v → (nodes : List TreeNode) × (v ≡ Yes relations nodes)
-
--- and a label by such a network is held with these
+-- and where the class is closed as well, and the budget has a split for each edge that has several base relations, a label is held
+-- with these
 abbrev pub StraightIsHeld : Type 0
 StraightIsHeld =
     (m : Algebra) (n : ℕ) (class : List ℕ) (budget : ℕ) (words : List ℕ) (e base : ℕ) (closure relations : List ℕ)

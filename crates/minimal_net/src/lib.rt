@@ -12,14 +12,28 @@
 //! }
 //! ```
 //!
-//! [`laws_of_labels`] says what labels tell of the network, and [`laws_of_straight_classes`] where a label needs no
-//! search: over classes in whose closed networks the least base relations are a scenario.
+//! [`label_network`] has all of them, without scenarios and trees: for each edge of a closed network which base relations of its
+//! set are held, which are refuted, and which are open. [`leave`] takes the refuted ones away.
+//!
+//! [`laws_of_labels`] and [`laws_of_network_labels`] say what labels tell of the network, and
+//! [`laws_of_straight_labels`] where one needs no search: over classes in whose closed networks the least base relations
+//! are a scenario.
 #![tactic(auto)]
 
+mod counts;
+mod edge_labels;
 mod label;
+mod labeller;
 mod labelling;
 mod laws;
+mod network_labels;
+mod open_split;
+mod outcome;
 
+pub use counts::{Counts, count_labels, leave};
+pub use edge_labels::EdgeLabels;
 pub use label::Label;
 pub use labelling::minimal;
-pub use laws::{laws_of_labels, laws_of_straight_classes};
+pub use laws::{laws_of_labels, laws_of_network_labels, laws_of_straight_labels};
+pub use network_labels::label_network;
+pub use outcome::Outcome;

@@ -11,3 +11,4 @@ pub mod SomeCertificates
 pub mod AnswersOnce
 pub mod SomeAnswers
 pub mod Agreeing
+pub mod MinimalAnswers

@@ -34,7 +34,7 @@ use Rattle.qsr_answers.proofs.Verdicts.{verdict_true, no_rules_out, scenario_of}
 
 -- ---- closing
 
-zero_or_not : (words : List ℕ) → Contains words 0 ⊎ (¬ Contains words 0)
+pub zero_or_not : (words : List ℕ) → Contains words 0 ⊎ (¬ Contains words 0)
 zero_or_not [] = inr (λ h. omega (arith, h.1))
 zero_or_not (w ∷ ws) = elim (cases_eq w 0) [
   | inl e ↦ inl (0, omega arith, e)

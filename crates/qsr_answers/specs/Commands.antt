@@ -1,20 +1,25 @@
 -- What each command makes of its input: the text and the status of its answer.
-use Rattle.std.specs.Prelude.{◌≡◌, ⊤, ℕ, List, Contains}
+use Rattle.std.specs.Prelude.{◌≡◌, ⊤, ◌<◌, ◌↔◌, ◌++◌, ℕ, List, Contains}
 use Rattle.calculus_table.specs.Calculus.{NamedAlgebra}
 use Rattle.calculus_builtin.specs.Allen.{allen_calculus}
 use Rattle.network_words.specs.Network.{Network}
 use Rattle.network_words.specs.Closure.{IsClosure}
+use Rattle.network_words.specs.Scenario.{IsScenario}
 use Rattle.network_file.specs.NetworkText.{network_text}
 use Rattle.cert_file.specs.Certificate.{Certificate}
 use Rattle.cert_file.specs.Written.{certificate_text}
 use Rattle.split_search.specs.Ruled.{IsVerdict}
 use Rattle.split_search.specs.Verdicts.{IsTrueOf}
 use Rattle.split_search.specs.declared.verdict.Verdict.{Verdict}
-use Rattle.qsr_words.specs.Asked.{SolveAsked, IntervalsAsked}
+use Rattle.minimal_net.specs.declared.edge_labels.EdgeLabels.{EdgeLabels}
+use Rattle.minimal_net.specs.declared.outcome.Outcome.TheVariants.{Open}
+use Rattle.minimal_net.specs.Minimal.{IsMinimal}
+use Rattle.minimal_net.specs.NetworkLabels.{AreLabels, count_of, left_of}
+use Rattle.qsr_words.specs.Asked.{SolveAsked, IntervalsAsked, MinimalAsked}
 use Rattle.qsr_inputs.specs.Inputs.{Related}
 use Rattle.qsr_inputs.specs.declared.statuses.Status.{Status}
 use Rattle.qsr_inputs.specs.declared.statuses.Status.TheVariants.{Done, No, Budget, NotAccepted}
-use Rattle.qsr_answers.specs.Texts.{accepted_text, not_accepted_text}
+use Rattle.qsr_answers.specs.Texts.{accepted_text, not_accepted_text, labels_line}
 use Rattle.qsr_answers.specs.Verdicts.{answer_text, verdict_status, RulesOut}
 use Rattle.qsr_answers.specs.Certificates.{IsAccepted, IsNotAccepted, IsTracedForm, RulesOutScenarios}
 use Rattle.qsr_answers.specs.Relations.{IsTextOfPolygons}
@@ -69,6 +74,29 @@ pub record RealisesNetwork (asked : IntervalsAsked) (class : List ℕ) (net : Ne
   pub on_network : IsVerdictOn allen_calculus class asked.budget net verdict
   pub text_is : IsIntervalsText net verdict text
   pub status_is : status ≡ verdict_status verdict
+
+-- ---- minimal
+
+-- no where a set that is left is empty, else budget where a label is open, and else done
+abbrev pub IsStatusOfLabels : List EdgeLabels → Status → Type 0
+IsStatusOfLabels labels No = Contains (left_of labels) 0
+IsStatusOfLabels labels Budget = (¬ Contains (left_of labels) 0) × (0 < count_of Open labels)
+IsStatusOfLabels labels Done = (¬ Contains (left_of labels) 0) × (count_of Open labels ≡ 0)
+IsStatusOfLabels labels status = ⊥
+
+-- the text and the status of labelling the base relations of a network's closure: the numbers of labels, and what the closure has
+-- without the refuted ones. It has the scenarios of the network, and is the minimal network (Montanari 1974) where no label is open
+pub record LabelsNetwork (asked : MinimalAsked) (c : NamedAlgebra) (class : List ℕ) (net : Network) (text : List ℕ)
+    (status : Status) : Type 0 where
+  pub closure : List ℕ
+  pub is_closure : IsClosure c.algebra net.nodes net.words closure
+  pub labels : List EdgeLabels
+  pub are_labels : AreLabels c.algebra net.nodes class asked.budget net.words closure labels
+  pub text_is : text ≡ labels_line labels ++ network_text c (record net { words = left_of labels })
+  pub status_is : IsStatusOfLabels labels status
+  pub keeps : (relations : List ℕ) → IsScenario c.algebra net.nodes net.words relations
+      ↔ IsScenario c.algebra net.nodes (left_of labels) relations
+  pub is_minimal : count_of Open labels ≡ 0 → IsMinimal c.algebra net.nodes net.words (left_of labels)
 
 -- ---- check and trace
 

@@ -41,6 +41,23 @@ pub(crate) fn workers_for<C: Compose>(net: &Net, c: &C, named: Option<u32>) -> u
     }
 }
 
+/// The least number of edges that is shared out to be labelled: that of nine nodes.
+const SHARED_EDGES: u32 = 36;
+
+/// How many workers label the base relations of the network's edges: as many as are named, or else four where there are
+/// edges enough, and one where there aren't.
+pub(crate) fn labellers_for(net: &Net, named: Option<u32>) -> u32
+    requires { AreWorkersIfNamed named }
+    ensures named { IfSome named (λ workers. result ≡ workers) }
+    ensures within { AreWorkers result }
+{
+    match named {
+        Some(workers) => workers,
+        None if net.edges() >= SHARED_EDGES => USUAL_WORKERS,
+        None => MIN_WORKERS,
+    }
+}
+
 /// Whether it pays to share the edges of the network out: where there is work enough, and most edges are stated, by
 /// small sets.
 fn is_shared<C: Compose>(net: &Net, c: &C) -> bool {

@@ -7,8 +7,8 @@ use Rattle.std.specs.String.{string_bytes}
 use Rattle.std.proofs.lemmas.Bool.{false≢true}
 use Rattle.qsr_lex.specs.declared.TheConstants.{MAX_TEXT}
 use Rattle.qsr_outside.specs.Documents.{Documents}
-use Rattle.qsr_words.specs.Asked.{Asked, CloseAsked, CheckAsked, DemoAsked}
-use Rattle.qsr_words.specs.Asked.{close, solve, intervals, check, trace, relate, scene, serve, demo}
+use Rattle.qsr_words.specs.Asked.{Asked, CloseAsked, MinimalAsked, CheckAsked, DemoAsked}
+use Rattle.qsr_words.specs.Asked.{close, solve, intervals, minimal, check, trace, relate, scene, serve, demo}
 use Rattle.split_search.specs.declared.verdict.Verdict.{Verdict}
 use Rattle.split_search.specs.declared.verdict.Verdict.TheVariants as verdict
 use Rattle.qsr_inputs.specs.Stops.{Cause, HasCause}
@@ -28,7 +28,7 @@ use Rattle.qsr_inputs.proofs.Naming.{IfSome-weaker, told_all, named-told}
 use Rattle.qsr_inputs.proofs.Fetching.{not_failed, stop_long}
 use Rattle.qsr_inputs.proofs.InputsOnce.{DocumentsGive-one}
 use Rattle.qsr_answers.specs.Verdicts.{verdict_status}
-use Rattle.qsr_answers.specs.Commands.{IsStatusOf, ChecksNetwork, TracesNetwork, IsAnswered}
+use Rattle.qsr_answers.specs.Commands.{IsStatusOf, IsStatusOfLabels, ChecksNetwork, TracesNetwork, IsAnswered}
 use Rattle.qsr_answers.specs.Demonstrations.{Demonstrates}
 use Rattle.qsr_answers.specs.declared.answers.Answer.{Answer}
 use Rattle.qsr_answers.proofs.NeverNo.{demonstrates-not_no}
@@ -61,6 +61,13 @@ searches_answer asked may (verdict.No nodes) text =
 searches_answer asked may (verdict.Budget nodes) text =
     record { answered = tt; written = record { may_end = may Budget tt; is_text = tt } }
 
+labels_answer : (a : MinimalAsked) (labels : _) (text : List ℕ) (status : Status) →
+    IsStatusOfLabels labels status → IsAnswer (minimal a) text status
+labels_answer a labels text Done h = record { answered = tt; written = record { may_end = tt; is_text = tt } }
+labels_answer a labels text No h = record { answered = tt; written = record { may_end = tt; is_text = tt } }
+labels_answer a labels text Budget h = record { answered = tt; written = record { may_end = tt; is_text = tt } }
+labels_answer a labels text _ h = absurd h
+
 checks_answer : (a : CheckAsked) (x : Claimed) (net : _) (text : List ℕ) (status : Status) →
     ChecksNetwork x.calculus x.certificate net text status → IsAnswer (check a) text status
 checks_answer a x net text Done h = record { answered = tt; written = record { may_end = tt; is_text = tt } }
@@ -90,6 +97,7 @@ makes_answer (solve a) given net text status whole h = subst (IsAnswer (solve a)
     (searches_answer (solve a) (λ end is. is) h.verdict text)
 makes_answer (intervals a) class net text status whole h = subst (IsAnswer (intervals a) text) (sym h.status_is)
     (searches_answer (intervals a) (λ end is. is) h.verdict text)
+makes_answer (minimal a) guided net text status whole h = labels_answer a h.labels text status h.status_is
 makes_answer (check a) given net text status whole h = checks_answer a given net text status h
 makes_answer (trace a) given net text status whole h = traces_answer a given net text status h
 makes_answer (relate a) given read text status whole h =
@@ -124,6 +132,7 @@ may_stop : (asked : Asked) (s : Stop) → (documents_of asked ≡ [] → reads_s
 may_stop (close a) s has = each_end IsCloseEnd s (λ number place. tt) tt tt tt
 may_stop (solve a) s has = each_end IsSolveEnd s (λ number place. tt) tt tt tt
 may_stop (intervals a) s has = each_end IsSolveEnd s (λ number place. tt) tt tt tt
+may_stop (minimal a) s has = each_end IsSolveEnd s (λ number place. tt) tt tt tt
 may_stop (serve a) s has = each_end IsServeEnd s (λ number place. tt) tt tt tt
 may_stop (relate a) s has = each_end IsRelateEnd s (λ number place. tt) tt tt tt
 may_stop (scene a) s has = each_end IsRelateEnd s (λ number place. tt) tt tt tt

@@ -2,7 +2,7 @@
 use Rattle.std.specs.Prelude.{Option, None, Some}
 use Rattle.qsr_outside.specs.declared.reading.ReadStop.{ReadStop}
 use Rattle.qsr_outside.specs.declared.reading.ReadStop.TheVariants as stop
-use Rattle.qsr_words.specs.Asked.{Asked, close, solve, intervals, check, trace, relate, scene, serve, demo}
+use Rattle.qsr_words.specs.Asked.{Asked, close, solve, intervals, minimal, check, trace, relate, scene, serve, demo}
 use Rattle.qsr_inputs.specs.declared.statuses.Status.{Status}
 use Rattle.qsr_inputs.specs.declared.statuses.Status.TheVariants.{Done, No, Usage, ReadFault, WriteFault, Memory, Budget, NotAccepted, TooLong}
 
@@ -13,7 +13,7 @@ IsCloseEnd Budget = ⊥
 IsCloseEnd (NotAccepted number place) = ⊥
 IsCloseEnd status = Unit {0}
 
--- the ends of the commands that search for a scenario
+-- the ends of the commands that search for scenarios
 abbrev pub IsSolveEnd : Status → Type 0
 IsSolveEnd Usage = ⊥
 IsSolveEnd (NotAccepted number place) = ⊥
@@ -63,6 +63,7 @@ MayEnd None status = IsUsageEnd status
 MayEnd (Some (close asked)) status = IsCloseEnd status
 MayEnd (Some (solve asked)) status = IsSolveEnd status
 MayEnd (Some (intervals asked)) status = IsSolveEnd status
+MayEnd (Some (minimal asked)) status = IsSolveEnd status
 MayEnd (Some (check asked)) status = IsCheckEnd status
 MayEnd (Some (trace asked)) status = IsCheckEnd status
 MayEnd (Some (relate asked)) status = IsRelateEnd status

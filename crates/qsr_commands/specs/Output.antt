@@ -2,7 +2,7 @@
 -- and a status. Each command makes something of what the documents give and what the source gives.
 use Rattle.std.specs.Prelude.{◌≡◌, ◌⊎◌, ℕ, List, [], Option, None, Some, Ok, Err}
 use Rattle.qsr_outside.specs.Documents.{Documents}
-use Rattle.qsr_words.specs.Asked.{Asked, close, solve, intervals, check, trace, relate, scene, serve, demo}
+use Rattle.qsr_words.specs.Asked.{Asked, close, solve, intervals, minimal, check, trace, relate, scene, serve, demo}
 use Rattle.qsr_inputs.specs.Stops.{refuses, is_long}
 use Rattle.qsr_inputs.specs.Given.{GivenTo, ReadBy, Input, InputOf}
 use Rattle.qsr_inputs.specs.declared.statuses.Status.{Status}
@@ -10,7 +10,7 @@ use Rattle.qsr_inputs.specs.declared.statuses.Status.TheVariants.{Usage, Refused
 use Rattle.qsr_answers.specs.Texts.{usage_text, refusal_text}
 use Rattle.qsr_answers.specs.Demonstrations.{Demonstrates}
 use Rattle.qsr_answers.specs.Commands.{ClosesNetwork, SolvesNetwork, RealisesNetwork, ChecksNetwork, TracesNetwork}
-use Rattle.qsr_answers.specs.Commands.{RelatesPolygons, DrawsScene}
+use Rattle.qsr_answers.specs.Commands.{LabelsNetwork, RelatesPolygons, DrawsScene}
 use Rattle.qsr_commands.specs.Serving.{ServesScript}
 
 -- ---- what each command makes of what it is given
@@ -20,6 +20,7 @@ abbrev pub Makes : (asked : Asked) → GivenTo asked → ReadBy asked → List �
 Makes (close asked) c net = ClosesNetwork c net
 Makes (solve asked) given net = SolvesNetwork asked given.guided.calculus given.guided.class net
 Makes (intervals asked) class net = RealisesNetwork asked class net
+Makes (minimal asked) guided net = LabelsNetwork asked guided.calculus guided.class net
 Makes (check asked) given net = ChecksNetwork given.calculus given.certificate net
 Makes (trace asked) given net = TracesNetwork given.calculus given.certificate net
 Makes (relate asked) given read = RelatesPolygons given

@@ -2,25 +2,25 @@
 //! and makes its answer of both.
 ghost use Rattle.std.specs.Prelude.{◌≡◌, IfOk, IfErr};
 ghost use Rattle.std.specs.String.{string_bytes};
-ghost use Rattle.qsr_words.specs.Asked.{close, solve, intervals, check, trace, relate, scene};
-ghost use Rattle.qsr_words.specs.Requests.{close_of, solve_of, intervals_of, check_of, relate_of, scene_of};
-ghost use Rattle.qsr_words.specs.Requests.{demo_of, AreWorkersIfNamed, IsSearch, IsIntervalSearch, IsCheck};
-ghost use Rattle.qsr_words.specs.Requests.{IsDemo};
+ghost use Rattle.qsr_words.specs.Asked.{close, solve, intervals, minimal, check, trace, relate, scene};
+ghost use Rattle.qsr_words.specs.Requests.{close_of, solve_of, intervals_of, minimal_of, check_of, relate_of};
+ghost use Rattle.qsr_words.specs.Requests.{scene_of, demo_of, AreWorkersIfNamed, IsSearch, IsIntervalSearch};
+ghost use Rattle.qsr_words.specs.Requests.{IsMinimalSearch, IsCheck, IsDemo};
 ghost use Rattle.qsr_answers.specs.Demonstrations.{Demonstrates};
 ghost use Rattle.qsr_commands.specs.Answers.{Answers, AnswersAlone};
 
 use calculus_builtin::allen;
 use calculus_table::{Memory, lawful};
 use qsr_answers::{
-    Answer, checked_answer, closed_answer, demonstration, realised_answer, scene_text,
-    solved_answer, text_of_pairs, traced_answer,
+    Answer, checked_answer, closed_answer, demonstration, labelled_answer, realised_answer,
+    scene_text, solved_answer, text_of_pairs, traced_answer,
 };
 use qsr_inputs::{
-    GuidedCalculus, Status, Stop, calculus, class, network, placed_network, read_claimed,
-    read_drawn, read_related, read_searched,
+    GuidedCalculus, Status, Stop, calculus, calculus_and_class, class, network, placed_network,
+    read_claimed, read_drawn, read_related, read_searched,
 };
 use qsr_outside::{Gate, Shelf, Source};
-use qsr_words::{Check, Close, Demo, Intervals, Relate, Scene, Solve};
+use qsr_words::{Check, Close, Demo, Intervals, Minimal, Relate, Scene, Solve};
 use std::alloc::Global;
 use std::thread::Threads;
 
@@ -88,6 +88,29 @@ pub fn intervals_answer<R: Threads + Sync, F: Shelf, S: Source, G: Gate + Sync>(
     let net = network(alloc, source, &calculus)?;
     let guided = GuidedCalculus { calculus, class };
     match realised_answer(rt, alloc, net, &guided, request, gate) {
+        Ok(answer) => Ok(answer),
+        Err(Memory) => Err(Stop::Memory),
+    }
+}
+
+/// What `minimal` writes: the numbers of labels of the network of the source, and what they leave of its closure; or why
+/// nothing.
+pub fn minimal_answer<R: Threads + Sync, F: Shelf, S: Source, G: Gate + Sync>(
+    rt: &R,
+    alloc: Global,
+    request: &Minimal,
+    shelf: &mut F,
+    source: &mut S,
+    gate: &G,
+) -> Result<Answer, Stop>
+    requires { IsMinimalSearch (minimal_of request.now) }
+    ensures { Answers F.documents F.faults F.given F.absent_openings S.left S.faults S.given
+        (minimal (minimal_of request.now)) shelf.old shelf.new source.old source.new result }
+{
+    let calculus = request.calculus.as_str();
+    let guided = calculus_and_class(alloc, shelf, calculus, request.class.as_str())?;
+    let net = network(alloc, source, &guided.calculus)?;
+    match labelled_answer(rt, alloc, net, &guided, request, gate) {
         Ok(answer) => Ok(answer),
         Err(Memory) => Err(Stop::Memory),
     }

@@ -11,8 +11,8 @@ mod serving;
 mod writing;
 
 pub use commands::{
-    check_answer, close_answer, demo_answer, intervals_answer, relate_answer, scene_answer,
-    solve_answer, trace_answer,
+    check_answer, close_answer, demo_answer, intervals_answer, minimal_answer, relate_answer,
+    scene_answer, solve_answer, trace_answer,
 };
 pub use serving::serve_script;
 pub use writing::write_answer;

@@ -34,7 +34,7 @@ use Rattle.geo_facts.specs.declared.fault.FactFault.TheVariants as fact
 use Rattle.geo_facts.proofs.OneAnswer.{file-one, file_fault-one, file-no_fault}
 use Rattle.geo_facts.proofs.OneFacts.{facts-one, fact_fault-one, nodes-no_fault}
 use Rattle.qsr_outside.specs.Documents.{Documents, document}
-use Rattle.qsr_words.specs.Asked.{Asked, close, solve, intervals, check, trace, relate, scene, serve, demo}
+use Rattle.qsr_words.specs.Asked.{Asked, close, solve, intervals, minimal, check, trace, relate, scene, serve, demo}
 use Rattle.qsr_inputs.specs.Stops.{Cause, refuses, is_long}
 use Rattle.qsr_inputs.specs.Parts.{Then, IsOne}
 use Rattle.qsr_inputs.specs.Numbers.{load_refusal, class_refusal, file_refusal, cert_refusal, geo_refusal, fact_refusal, pattern_refusal}
@@ -297,6 +297,7 @@ pub DocumentsGive-one : (asked : Asked) (documents : Documents) → IsOne (Docum
 DocumentsGive-one (close asked) documents = CalculusOf-one documents asked.calculus
 DocumentsGive-one (solve asked) documents = SearchedOf-one documents asked.calculus asked.class asked.polygons
 DocumentsGive-one (intervals asked) documents = ClassOf-one documents asked.class allen_calculus
+DocumentsGive-one (minimal asked) documents = CalculusAndClass-one documents asked.calculus asked.class
 DocumentsGive-one (check asked) documents = ClaimedOf-one documents asked.calculus asked.certificate asked.polygons
 DocumentsGive-one (trace asked) documents = ClaimedOf-one documents asked.calculus asked.certificate asked.polygons
 DocumentsGive-one (relate asked) documents = RelatedOf-one documents asked.polygons asked.pattern
@@ -373,6 +374,7 @@ pub SourceGives-one : (asked : Asked) (bytes : List ℕ) (given : GivenTo asked)
 SourceGives-one (close asked) bytes c = SourceNetwork-one bytes c
 SourceGives-one (solve asked) bytes given = PlacedNetwork-one bytes given.guided.calculus given.polygons
 SourceGives-one (intervals asked) bytes class = SourceNetwork-one bytes allen_calculus
+SourceGives-one (minimal asked) bytes guided = SourceNetwork-one bytes guided.calculus
 SourceGives-one (check asked) bytes given = PlacedNetwork-one bytes given.calculus given.polygons
 SourceGives-one (trace asked) bytes given = PlacedNetwork-one bytes given.calculus given.polygons
 SourceGives-one (relate asked) bytes given = λ x y p q. p ∙ sym q

@@ -239,7 +239,7 @@ pub record IsGuide (g : Guided) : Type 0 where
   pub lawful : IsNamedCalculus g.calculus
   pub guides : CanGuide g
 
-CalculusAndClass-there : (documents : Documents) (calculus class : List ℕ) → class_fits calculus class ≡ true →
+pub CalculusAndClass-there : (documents : Documents) (calculus class : List ℕ) → class_fits calculus class ≡ true →
     AreThereIn documents (named_by_calculus calculus ++ named_by_class class) → There (CalculusAndClass documents calculus class) IsGuide
 CalculusAndClass-there documents calculus class fits there =
     Then-there (CalculusOf documents calculus) (λ c. Then (ClassOf documents class c) (IsGuided c)) (IsOfWord calculus) IsGuide

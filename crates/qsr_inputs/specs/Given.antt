@@ -5,17 +5,18 @@ use Rattle.calculus_builtin.specs.Allen.{allen_calculus}
 use Rattle.network_words.specs.Network.{Network}
 use Rattle.geo_facts.specs.PolygonFile.{NamedRing}
 use Rattle.qsr_outside.specs.Documents.{Documents}
-use Rattle.qsr_words.specs.Asked.{Asked, close, solve, intervals, check, trace, relate, scene, serve, demo}
+use Rattle.qsr_words.specs.Asked.{Asked, close, solve, intervals, minimal, check, trace, relate, scene, serve, demo}
 use Rattle.qsr_inputs.specs.Stops.{Cause}
 use Rattle.qsr_inputs.specs.Parts.{Then}
-use Rattle.qsr_inputs.specs.Inputs.{CalculusOf, ClassOf, Searched, SearchedOf, Claimed, ClaimedOf, Related, RelatedOf, DrawnOf}
-use Rattle.qsr_inputs.specs.Inputs.{SourceNetwork, PlacedNetwork}
+use Rattle.qsr_inputs.specs.Inputs.{CalculusOf, ClassOf, Guided, CalculusAndClass, Searched, SearchedOf, Claimed}
+use Rattle.qsr_inputs.specs.Inputs.{ClaimedOf, Related, RelatedOf, DrawnOf, SourceNetwork, PlacedNetwork}
 
 -- what the documents give it
 abbrev pub GivenTo : Asked → Type 0
 GivenTo (close asked) = NamedAlgebra
 GivenTo (solve asked) = Searched
 GivenTo (intervals asked) = List ℕ
+GivenTo (minimal asked) = Guided
 GivenTo (check asked) = Claimed
 GivenTo (trace asked) = Claimed
 GivenTo (relate asked) = Related
@@ -27,6 +28,7 @@ abbrev pub DocumentsGive : (asked : Asked) → Documents → Result (GivenTo ask
 DocumentsGive (close asked) documents = CalculusOf documents asked.calculus
 DocumentsGive (solve asked) documents = SearchedOf documents asked.calculus asked.class asked.polygons
 DocumentsGive (intervals asked) documents = ClassOf documents asked.class allen_calculus
+DocumentsGive (minimal asked) documents = CalculusAndClass documents asked.calculus asked.class
 DocumentsGive (check asked) documents = ClaimedOf documents asked.calculus asked.certificate asked.polygons
 DocumentsGive (trace asked) documents = ClaimedOf documents asked.calculus asked.certificate asked.polygons
 DocumentsGive (relate asked) documents = RelatedOf documents asked.polygons asked.pattern
@@ -39,6 +41,7 @@ abbrev pub ReadBy : Asked → Type 0
 ReadBy (close asked) = Network
 ReadBy (solve asked) = Network
 ReadBy (intervals asked) = Network
+ReadBy (minimal asked) = Network
 ReadBy (check asked) = Network
 ReadBy (trace asked) = Network
 ReadBy (relate asked) = Unit {0}
@@ -50,6 +53,7 @@ abbrev pub SourceGives : (asked : Asked) → List ℕ → GivenTo asked → Resu
 SourceGives (close asked) bytes c = SourceNetwork bytes c
 SourceGives (solve asked) bytes given = PlacedNetwork bytes given.guided.calculus given.polygons
 SourceGives (intervals asked) bytes class = SourceNetwork bytes allen_calculus
+SourceGives (minimal asked) bytes guided = SourceNetwork bytes guided.calculus
 SourceGives (check asked) bytes given = PlacedNetwork bytes given.calculus given.polygons
 SourceGives (trace asked) bytes given = PlacedNetwork bytes given.calculus given.polygons
 SourceGives (relate asked) bytes given = λ result. result ≡ Ok tt

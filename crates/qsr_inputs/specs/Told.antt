@@ -2,7 +2,7 @@
 use Rattle.std.specs.Prelude.{◌≡◌, ℕ, ⊤, List, [], ◌∷◌, ◌++◌, All, Bool, true, false, Option, None, Some, Err, is_some, IfSome, MatchBool, if◌then◌else◌}
 use Rattle.std.specs.FinMap as map
 use Rattle.qsr_outside.specs.Documents.{Documents, HasDocument}
-use Rattle.qsr_words.specs.Asked.{Asked, close, solve, intervals, check, trace, relate, scene, serve, demo}
+use Rattle.qsr_words.specs.Asked.{Asked, close, solve, intervals, minimal, check, trace, relate, scene, serve, demo}
 use Rattle.qsr_inputs.specs.Stops.{Cause}
 use Rattle.qsr_inputs.specs.Inputs.{builtin_of, builtin_class}
 use Rattle.qsr_inputs.specs.Given.{DocumentsGive}
@@ -24,6 +24,7 @@ abbrev pub documents_of : Asked → List (List ℕ)
 documents_of (close asked) = named_by_calculus asked.calculus
 documents_of (solve asked) = (named_by_calculus asked.calculus ++ named_by_class asked.class) ++ named_by_polygons asked.polygons
 documents_of (intervals asked) = named_by_class asked.class
+documents_of (minimal asked) = named_by_calculus asked.calculus ++ named_by_class asked.class
 documents_of (check asked) = named_by_calculus asked.calculus ++ (asked.certificate ∷ []) ++ named_by_polygons asked.polygons
 documents_of (trace asked) = named_by_calculus asked.calculus ++ (asked.certificate ∷ []) ++ named_by_polygons asked.polygons
 documents_of (relate asked) = asked.polygons ∷ []
@@ -48,6 +49,7 @@ abbrev pub reads_source : Asked → Bool
 reads_source (close asked) = true
 reads_source (solve asked) = true
 reads_source (intervals asked) = true
+reads_source (minimal asked) = true
 reads_source (check asked) = true
 reads_source (trace asked) = true
 reads_source (relate asked) = false

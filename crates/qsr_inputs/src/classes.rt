@@ -35,8 +35,9 @@ impl Model for GuidedCalculus {
     ghost view = { λ g. record { calculus = g.calculus; class = g.class } };
 }
 
-/// The calculus of a word, and the class of another over it.
-pub(crate) fn calculus_and_class<F: Shelf>(
+/// The calculus of a word, and then the class of another over it. A class of RCC-8 that is built in goes with RCC-8
+/// alone.
+pub fn calculus_and_class<F: Shelf>(
     alloc: Global,
     shelf: &mut F,
     word: &str,

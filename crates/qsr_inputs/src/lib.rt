@@ -19,7 +19,7 @@ mod stops;
 mod texts;
 
 pub use claims::{Claimed, read_claimed};
-pub use classes::{GuidedCalculus, class};
+pub use classes::{GuidedCalculus, calculus_and_class, class};
 pub use inputs::{calculus, network};
 pub use placing::placed_network;
 pub use polygons::{Polygons, Related, read_drawn, read_related};

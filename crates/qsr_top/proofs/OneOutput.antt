@@ -2,7 +2,7 @@
 use Rattle.std.proofs.Common.{◌≡◌, ℕ, false, List, [], None, Some, Result, Ok, Err, refl, sym, ◌∙◌, ap, subst}
 use Rattle.std.proofs.lemmas.Bool.{false≢true}
 use Rattle.qsr_outside.specs.Documents.{Documents}
-use Rattle.qsr_words.specs.Asked.{Asked, close, solve, intervals, check, trace, relate, scene, serve, demo}
+use Rattle.qsr_words.specs.Asked.{Asked, close, solve, intervals, minimal, check, trace, relate, scene, serve, demo}
 use Rattle.qsr_inputs.specs.Stops.{Cause, refuses, is_long}
 use Rattle.qsr_inputs.specs.Told.{is_served}
 use Rattle.qsr_inputs.specs.Given.{Input, InputOf, GivenTo, ReadBy}
@@ -16,6 +16,7 @@ use Rattle.qsr_answers.proofs.CertificatesOnce.{IsSame, checks_once, traces_once
 use Rattle.qsr_answers.proofs.RelatedOnce.{relates_once}
 use Rattle.qsr_answers.proofs.ScenesOnce.{draws_once}
 use Rattle.qsr_answers.proofs.AnswersOnce.{closes_once, solves_once, realises_once, demonstrates_once}
+use Rattle.qsr_answers.proofs.MinimalAnswers.{labels_once}
 use Rattle.qsr_commands.specs.Output.{OutputOf, LongOutput, Works, Makes}
 use Rattle.qsr_top.specs.Laws.{OutputIsOne}
 
@@ -26,6 +27,8 @@ makes_once : (asked : Asked) (given : GivenTo asked) (read : ReadBy asked) (t u 
 makes_once (close asked) c net t u s r whole h k = closes_once c net t u s r h k
 makes_once (solve asked) given net t u s r whole h k = solves_once given.guided.calculus net asked given.guided.class t u s r h k
 makes_once (intervals asked) class net t u s r whole h k = realises_once asked class net t u s r h k
+makes_once (minimal asked) guided net t u s r whole h k =
+    labels_once asked guided.calculus guided.class net t u s r h k
 makes_once (check asked) given net t u s r whole h k = checks_once given.calculus net given.certificate t u s r h k
 makes_once (trace asked) given net t u s r whole h k = traces_once given.calculus net given.certificate t u s r h k
 makes_once (relate asked) given read t u s r whole h k = record { text = relates_once given t u h.0 k.0; status = h.1 ∙ sym k.1 }

@@ -5,17 +5,18 @@ use Rattle.std.specs.Prelude.{⊤}
 use Rattle.calculus_builtin.specs.Allen.{allen_calculus}
 use Rattle.network_words.specs.Network.{Network}
 use Rattle.qsr_outside.specs.Documents.{Documents}
-use Rattle.qsr_words.specs.Asked.{Asked, SceneAsked, close, solve, intervals, check, trace, scene}
+use Rattle.qsr_words.specs.Asked.{Asked, SceneAsked, close, solve, intervals, minimal, check, trace, scene}
 use Rattle.qsr_inputs.specs.Stops.{Cause, refuses, is_long}
 use Rattle.qsr_inputs.specs.Parts.{Then}
-use Rattle.qsr_inputs.specs.Inputs.{Searched, Claimed}
+use Rattle.qsr_inputs.specs.Inputs.{Guided, Searched, Claimed}
 use Rattle.qsr_inputs.specs.Given.{GivenTo, ReadBy, DocumentsGive, SourceGives, Input, IsInput, InputOf}
 use Rattle.qsr_inputs.specs.declared.statuses.Status.TheVariants.{Usage, Refused, TooLong}
 use Rattle.qsr_inputs.proofs.InputsThere.{There, value, stops, Then-there, IsOfWord, CalculusOf-there, SourceNetwork-there, PlacedNetwork-there, IsOver, IsSoundSearch, SearchedOf-there, IsSoundClaim, ClaimedOf-there}
-use Rattle.qsr_inputs.proofs.InputsThere.{IsGuideFor, AllenClass-there, AreOfSomeFile, DrawnOf-there}
+use Rattle.qsr_inputs.proofs.InputsThere.{IsGuide, CalculusAndClass-there, IsGuideFor, AllenClass-there, AreOfSomeFile, DrawnOf-there}
 use Rattle.qsr_answers.specs.Texts.{usage_text, refusal_text}
 use Rattle.qsr_answers.proofs.SomeCertificates.{Made, checks_there, traces_there}
 use Rattle.qsr_answers.proofs.SomeAnswers.{closes, solves, realises, draws}
+use Rattle.qsr_answers.proofs.MinimalAnswers.{labels_there}
 use Rattle.qsr_answers.proofs.Agreeing.{file-regions}
 use Rattle.qsr_commands.specs.Output.{Makes}
 use Rattle.qsr_top.specs.Laws.{HasOutput, OutputIsThere, SceneIsAnswered}
@@ -78,6 +79,10 @@ output_there (Some (intervals asked)) documents bytes fits none there =
     (λ (class : List ℕ) (net : Network). IsOver allen_calculus net)
     (AllenClass-there documents asked.class fits there) (λ class guides. SourceNetwork-there bytes allen_calculus)
     (λ class net guides over. realises asked class net guides over)
+output_there (Some (minimal asked)) documents bytes fits none there =
+    command_out (minimal asked) documents bytes IsGuide (λ (g : Guided) (net : Network). IsOver g.calculus net)
+    (CalculusAndClass-there documents asked.calculus asked.class fits there)
+    (λ g known. SourceNetwork-there bytes g.calculus) (λ g net known over. labels_there asked g net known over)
 output_there (Some (check asked)) documents bytes fits none there =
     command_out (check asked) documents bytes IsSoundClaim (λ (k : Claimed) (net : Network). IsOver k.calculus net)
     (ClaimedOf-there documents asked.calculus asked.certificate asked.polygons none there)

@@ -6,7 +6,7 @@ use Rattle.calculus_builtin.specs.Rcc8.{rcc8_calculus}
 use Rattle.network_words.specs.Edge.{edge_count}
 use Rattle.network_words.specs.Network.{Network}
 use Rattle.qsr_outside.specs.Documents.{Documents, document}
-use Rattle.qsr_words.specs.Asked.{Asked, SolveAsked, SceneAsked, close, solve, intervals, check}
+use Rattle.qsr_words.specs.Asked.{Asked, SolveAsked, SceneAsked, close, solve, intervals, minimal, check}
 use Rattle.qsr_words.specs.Asked.{trace, scene, asked_by}
 use Rattle.qsr_words.specs.Requests.{FitsCalculus}
 use Rattle.qsr_inputs.specs.Inputs.{SourceNetwork}
@@ -30,6 +30,7 @@ HasNoPolygons None = ⊤
 HasNoPolygons (Some (close asked)) = ⊤
 HasNoPolygons (Some (solve asked)) = asked.polygons ≡ None
 HasNoPolygons (Some (intervals asked)) = ⊤
+HasNoPolygons (Some (minimal asked)) = ⊤
 HasNoPolygons (Some (check asked)) = asked.polygons ≡ None
 HasNoPolygons (Some (trace asked)) = asked.polygons ≡ None
 HasNoPolygons asked = ⊥

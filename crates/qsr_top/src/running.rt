@@ -17,8 +17,8 @@ ghost use Rattle.qsr_commands.specs.Runs.{Runs};
 use calculus_table::Memory;
 use qsr_answers::usage;
 use qsr_commands::{
-    check_answer, close_answer, demo_answer, intervals_answer, relate_answer, scene_answer,
-    serve_script, solve_answer, trace_answer, write_answer,
+    check_answer, close_answer, demo_answer, intervals_answer, minimal_answer, relate_answer,
+    scene_answer, serve_script, solve_answer, trace_answer, write_answer,
 };
 use qsr_inputs::{Status, Stop};
 use qsr_lex::MAX_TEXT;
@@ -119,6 +119,13 @@ fn run_request<R: Threads + Sync, F: Shelf, S: Source, W: Sink, G: Gate + Sync>(
                 alloc,
                 sink,
                 intervals_answer(rt, alloc, intervals, shelf, source, gate),
+            )
+        }
+        Request::Minimal(minimal) => {
+            write_answer(
+                alloc,
+                sink,
+                minimal_answer(rt, alloc, minimal, shelf, source, gate),
             )
         }
         Request::Check(check) => {

@@ -4,11 +4,13 @@ use Rattle.std.specs.Prelude.{IfSome, codes}
 use Rattle.std.specs.List.{list_any}
 use Rattle.std.specs.Str.{bytes_eq}
 use Rattle.clap.specs.Words.{App, Row, fault_of, first_of, matches_of}
-use Rattle.qsr_words.specs.Asked.{Asked, asked_by, asked_with, SolveAsked, IntervalsAsked, CheckAsked, close, solve}
-use Rattle.qsr_words.specs.Asked.{intervals, check, trace, relate, scene, serve, demo, class_asked, class_fits, polygons_asked, polygons_fit}
+use Rattle.qsr_words.specs.Asked.{Asked, asked_by, asked_with, SolveAsked, IntervalsAsked, MinimalAsked, CheckAsked}
+use Rattle.qsr_words.specs.Asked.{close, solve, intervals, minimal, check, trace, relate, scene, serve, demo}
+use Rattle.qsr_words.specs.Asked.{class_asked, class_fits, polygons_asked, polygons_fit}
 use Rattle.qsr_words.specs.Asked.{is_rcc8_class, is_strange}
 use Rattle.qsr_words.specs.Asked.{solve_over, solve_with, solve_app, solve_asked, solve_by, check_over, check_with}
 use Rattle.qsr_words.specs.Asked.{intervals_with, intervals_app, intervals_asked, intervals_by}
+use Rattle.qsr_words.specs.Asked.{minimal_over, minimal_with, minimal_app, minimal_asked, minimal_by}
 use Rattle.qsr_words.specs.Asked.{check_app, check_asked, check_by, close_asked, relate_asked, scene_asked}
 use Rattle.qsr_words.specs.Asked.{serve_asked, demo_asked, command_asked, command_by, budget_asked, workers_asked}
 use Rattle.qsr_words.specs.Asked.{is_flag_there}
@@ -19,6 +21,9 @@ FitsSolve asked = (class_fits asked.calculus asked.class ≡ true) × (polygons_
 
 abbrev FitsIntervals : IntervalsAsked → Type 0
 FitsIntervals asked = class_fits (codes "allen") asked.class ≡ true
+
+abbrev FitsMinimal : MinimalAsked → Type 0
+FitsMinimal asked = class_fits asked.calculus asked.class ≡ true
 
 abbrev FitsCheck : CheckAsked → Type 0
 FitsCheck asked = polygons_fit asked.calculus asked.polygons ≡ true
@@ -63,6 +68,18 @@ intervals_with_known (Some k) None w h = tt
 intervals_with_known (Some k) (Some b) None h = tt
 intervals_with_known (Some k) (Some b) (Some w) h = h
 
+minimal_over_known : (c : List ℕ) (k : Option (List ℕ)) (b : Option ℕ) (w : Option (Option ℕ)) →
+    IfSome k (λ v. class_fits c v ≡ true) → IfSome (minimal_over c k b w) FitsMinimal
+minimal_over_known c None b w h = tt
+minimal_over_known c (Some k) None w h = tt
+minimal_over_known c (Some k) (Some b) None h = tt
+minimal_over_known c (Some k) (Some b) (Some w) h = h
+
+minimal_with_known : (c k : Option (List ℕ)) (b : Option ℕ) (w : Option (Option ℕ)) →
+    IfSome (minimal_with c k b w) FitsMinimal
+minimal_with_known None k b w = tt
+minimal_with_known (Some c) k b w = minimal_over_known c (class_asked c k) b w (class_known c k)
+
 check_over_known : (c : List ℕ) (t : Option (List ℕ)) (p : Option (Option (List ℕ))) → IfSome p (λ v. polygons_fit c v ≡ true) → IfSome (check_over c t p) FitsCheck
 check_over_known c None p h = tt
 check_over_known c (Some t) None h = tt
@@ -90,6 +107,11 @@ intervals_known words = asked_known intervals_app intervals_by FitsIntervals wor
     (budget_asked (first_of (codes "budget") rows)) (workers_asked (first_of (codes "workers") rows))
     (class_known (codes "allen") (first_of (codes "class") rows)))
 
+minimal_known : (words : List (List ℕ)) → IfSome (minimal_asked words) FitsMinimal
+minimal_known words = asked_known minimal_app minimal_by FitsMinimal words (λ rows.
+    minimal_with_known (first_of (codes "calculus") rows) (first_of (codes "class") rows)
+    (budget_asked (first_of (codes "budget") rows)) (workers_asked (first_of (codes "workers") rows)))
+
 check_known : (words : List (List ℕ)) → IfSome (check_asked words) FitsCheck
 check_known words = asked_known check_app check_by FitsCheck words (λ rows.
     check_with_known (first_of (codes "calculus") rows) (first_of (codes "certificate") rows) (first_of (codes "polygons") rows))
@@ -112,13 +134,14 @@ by_fits name words =
     (fits_either (bytes_eq name (codes "solve")) _ _ (fits_of solve (solve_asked words) (solve_known words))
     (fits_either (bytes_eq name (codes "intervals")) _ _
     (fits_of intervals (intervals_asked words) (intervals_known words))
+    (fits_either (bytes_eq name (codes "minimal")) _ _ (fits_of minimal (minimal_asked words) (minimal_known words))
     (fits_either (bytes_eq name (codes "check")) _ _ (fits_of check (check_asked words) (check_known words))
     (fits_either (bytes_eq name (codes "trace")) _ _ (fits_of trace (check_asked words) (check_known words))
     (fits_either (bytes_eq name (codes "relate")) _ _ (fits_any relate (relate_asked words) (λ a. tt))
     (fits_either (bytes_eq name (codes "scene")) _ _ (fits_any scene (scene_asked words) (λ a. tt))
     (fits_either (bytes_eq name (codes "serve")) _ _ (fits_any serve (serve_asked words) (λ a. tt))
     (fits_either (bytes_eq name (codes "demo")) (option_map demo (demo_asked words)) None
-    (fits_any demo (demo_asked words) (λ a. tt)) tt))))))))
+    (fits_any demo (demo_asked words) (λ a. tt)) tt)))))))))
 
 command_fits : (words : List (List ℕ)) → FitsCalculus (command_asked words)
 command_fits [] = tt

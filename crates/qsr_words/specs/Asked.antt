@@ -206,6 +206,39 @@ intervals_by found =
 abbrev pub intervals_asked : List (List ℕ) → Option IntervalsAsked
 intervals_asked = asked_with intervals_app intervals_by
 
+-- ---- minimal
+
+-- to search for the minimal network of that of the source, over the calculus of a word, guided by the class of a word,
+-- after workers whose number may be named
+pub record MinimalAsked : Type 0 where
+  pub calculus : List ℕ
+  pub class : List ℕ
+  pub budget : ℕ
+  pub workers : Option ℕ
+
+-- the words of `minimal`: its name, a calculus, and `--class`, `--budget` and `--workers` with a value each
+abbrev pub minimal_app : App
+minimal_app =
+    with_rule (with_rule (with_rule (with_rule (new_app (codes "minimal")) (word_rule (codes "calculus")))
+    (option_rule (codes "class"))) (option_rule (codes "budget"))) (option_rule (codes "workers"))
+
+-- over a calculus, with a class that fits it, a budget and a number of workers or none, where there are all of them
+abbrev pub minimal_over : List ℕ → Option (List ℕ) → Option ℕ → Option (Option ℕ) → Option MinimalAsked
+minimal_over calculus class budget workers = option_and_then (λ k. option_and_then (λ b. option_map (λ w.
+    record { calculus = calculus; class = k; budget = b; workers = w }) workers) budget) class
+
+abbrev pub minimal_with : Option (List ℕ) → Option (List ℕ) → Option ℕ → Option (Option ℕ) → Option MinimalAsked
+minimal_with calculus class budget workers =
+    option_and_then (λ c. minimal_over c (class_asked c class) budget workers) calculus
+
+abbrev pub minimal_by : List Row → Option MinimalAsked
+minimal_by found =
+    minimal_with (first_of (codes "calculus") found) (first_of (codes "class") found)
+    (budget_asked (first_of (codes "budget") found)) (workers_asked (first_of (codes "workers") found))
+
+abbrev pub minimal_asked : List (List ℕ) → Option MinimalAsked
+minimal_asked = asked_with minimal_app minimal_by
+
 -- ---- check and trace
 
 -- to check or to trace a certificate for the network of the source and of the polygons, over the calculus of a word
@@ -333,6 +366,7 @@ pub data Asked : Type 0 where
   close : CloseAsked → Asked
   solve : SolveAsked → Asked
   intervals : IntervalsAsked → Asked
+  minimal : MinimalAsked → Asked
   check : CheckAsked → Asked
   trace : CheckAsked → Asked
   relate : RelateAsked → Asked
@@ -346,12 +380,13 @@ command_by name words =
     if bytes_eq name (codes "close") then option_map close (close_asked words)
     else (if bytes_eq name (codes "solve") then option_map solve (solve_asked words)
     else (if bytes_eq name (codes "intervals") then option_map intervals (intervals_asked words)
+    else (if bytes_eq name (codes "minimal") then option_map minimal (minimal_asked words)
     else (if bytes_eq name (codes "check") then option_map check (check_asked words)
     else (if bytes_eq name (codes "trace") then option_map trace (check_asked words)
     else (if bytes_eq name (codes "relate") then option_map relate (relate_asked words)
     else (if bytes_eq name (codes "scene") then option_map scene (scene_asked words)
     else (if bytes_eq name (codes "serve") then option_map serve (serve_asked words)
-    else (if bytes_eq name (codes "demo") then option_map demo (demo_asked words) else None))))))))
+    else (if bytes_eq name (codes "demo") then option_map demo (demo_asked words) else None)))))))))
 
 -- what the words after the test of each word ask for, by the first of them
 abbrev pub command_asked : List (List ℕ) → Option Asked

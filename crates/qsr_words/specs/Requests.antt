@@ -1,14 +1,15 @@
 -- Requests as the definitions see them.
 use Rattle.std.specs.Prelude.{◌≡◌, ℕ, ◌≤◌, ⊤, true, Option, Some, None, IfSome, option_map, codes}
 use Rattle.std.specs.String.{string_bytes}
-use Rattle.qsr_words.specs.Asked.{Asked, CloseAsked, SolveAsked, IntervalsAsked, CheckAsked, RelateAsked, SceneAsked}
-use Rattle.qsr_words.specs.Asked.{ServeAsked, DemoAsked, class_fits, polygons_fit}
-use Rattle.qsr_words.specs.Asked.{close, solve, intervals, check, trace, relate, scene, serve, demo}
+use Rattle.qsr_words.specs.Asked.{Asked, CloseAsked, SolveAsked, IntervalsAsked, MinimalAsked, CheckAsked, RelateAsked}
+use Rattle.qsr_words.specs.Asked.{SceneAsked, ServeAsked, DemoAsked, class_fits, polygons_fit}
+use Rattle.qsr_words.specs.Asked.{close, solve, intervals, minimal, check, trace, relate, scene, serve, demo}
 use Rattle.qsr_words.specs.declared.TheConstants.{MIN_WORKERS, MAX_WORKERS, MAX_BUDGET}
 use Rattle.qsr_words.specs.declared.TheConstants.{MAX_SEED, MIN_DEMO_NODES, MAX_DEMO_NODES, MIN_SERVED_NODES, MAX_SERVED_NODES}
 use Rattle.qsr_words.specs.declared.close.Close.{Close}
 use Rattle.qsr_words.specs.declared.solve.Solve.{Solve}
 use Rattle.qsr_words.specs.declared.intervals.Intervals.{Intervals}
+use Rattle.qsr_words.specs.declared.minimal.Minimal.{Minimal}
 use Rattle.qsr_words.specs.declared.check.Check.{Check}
 use Rattle.qsr_words.specs.declared.relate.Relate.{Relate}
 use Rattle.qsr_words.specs.declared.scene.Scene.{Scene}
@@ -32,6 +33,14 @@ solve_of s = record {
 
 abbrev pub intervals_of : Intervals → IntervalsAsked
 intervals_of i = record { class = string_bytes i.class; budget = i.budget; workers = i.workers }
+
+abbrev pub minimal_of : Minimal → MinimalAsked
+minimal_of m = record {
+  calculus = string_bytes m.calculus;
+  class = string_bytes m.class;
+  budget = m.budget;
+  workers = m.workers;
+}
 
 abbrev pub check_of : Check → CheckAsked
 check_of c = record {
@@ -57,6 +66,7 @@ abbrev pub asked_of : Request → Option Asked
 asked_of (request.Close c) = Some (close (close_of c))
 asked_of (request.Solve s) = Some (solve (solve_of s))
 asked_of (request.Intervals i) = Some (intervals (intervals_of i))
+asked_of (request.Minimal m) = Some (minimal (minimal_of m))
 asked_of (request.Check c) = Some (check (check_of c))
 asked_of (request.Trace c) = Some (trace (check_of c))
 asked_of (request.Relate r) = Some (relate (relate_of r))
@@ -86,6 +96,12 @@ pub record IsIntervalSearch (asked : IntervalsAsked) : Type 0 where
   pub budget : asked.budget ≤ MAX_BUDGET
   pub workers : AreWorkersIfNamed asked.workers
 
+-- a search for a minimal network, with a class that fits the calculus, and a budget and named workers within the limits
+pub record IsMinimalSearch (asked : MinimalAsked) : Type 0 where
+  pub fits : class_fits asked.calculus asked.class ≡ true
+  pub budget : asked.budget ≤ MAX_BUDGET
+  pub workers : AreWorkersIfNamed asked.workers
+
 -- a certificate to check or to trace, with polygons that fit the calculus
 pub record IsCheck (asked : CheckAsked) : Type 0 where
   pub polygons : polygons_fit asked.calculus asked.polygons ≡ true
@@ -107,6 +123,7 @@ abbrev pub FitsCalculus : Option Asked → Type 0
 FitsCalculus (Some (solve asked)) =
     (class_fits asked.calculus asked.class ≡ true) × (polygons_fit asked.calculus asked.polygons ≡ true)
 FitsCalculus (Some (intervals asked)) = class_fits (codes "allen") asked.class ≡ true
+FitsCalculus (Some (minimal asked)) = class_fits asked.calculus asked.class ≡ true
 FitsCalculus (Some (check asked)) = polygons_fit asked.calculus asked.polygons ≡ true
 FitsCalculus (Some (trace asked)) = polygons_fit asked.calculus asked.polygons ≡ true
 FitsCalculus asked = ⊤
@@ -116,6 +133,7 @@ abbrev pub IsWithinLimits : Request → Type 0
 IsWithinLimits (request.Close c) = AreWorkersIfNamed c.workers
 IsWithinLimits (request.Solve s) = IsSearch (solve_of s)
 IsWithinLimits (request.Intervals i) = IsIntervalSearch (intervals_of i)
+IsWithinLimits (request.Minimal m) = IsMinimalSearch (minimal_of m)
 IsWithinLimits (request.Check c) = IsCheck (check_of c)
 IsWithinLimits (request.Trace c) = IsCheck (check_of c)
 IsWithinLimits (request.Serve s) = AreServed (serve_of s)

@@ -9,11 +9,12 @@ use crate::check::Check;
 use crate::close::Close;
 use crate::demo::Demo;
 use crate::intervals::Intervals;
+use crate::minimal::Minimal;
 use crate::relate::Relate;
 use crate::scene::Scene;
 use crate::serve::Serve;
 use crate::solve::Solve;
-use crate::{check, close, demo, intervals, relate, scene, serve, solve};
+use crate::{check, close, demo, intervals, minimal, relate, scene, serve, solve};
 use calculus_table::Memory;
 use std::alloc::Global;
 
@@ -26,6 +27,8 @@ pub enum Request {
     Solve(Solve),
     /// To search for intervals of a network over Allen's calculus.
     Intervals(Intervals),
+    /// To search for the minimal network of a network.
+    Minimal(Minimal),
     /// To check a certificate.
     Check(Check),
     /// To trace a certificate.
@@ -66,6 +69,7 @@ fn request_by(alloc: Global, name: &str, words: &[String]) -> Result<Request, Me
         "close" => close::read(alloc, words)?.map(Request::Close),
         "solve" => solve::read(alloc, words)?.map(Request::Solve),
         "intervals" => intervals::read(alloc, words)?.map(Request::Intervals),
+        "minimal" => minimal::read(alloc, words)?.map(Request::Minimal),
         "check" => check::read(alloc, words)?.map(Request::Check),
         "trace" => check::read(alloc, words)?.map(Request::Trace),
         "relate" => relate::read(alloc, words)?.map(Request::Relate),

@@ -22,3 +22,12 @@ pub mod Later
 pub mod Whole
 pub mod Counts
 pub mod Truths
+pub mod SetEdges
+pub mod Least
+pub mod Straight
+pub mod ClassClosures
+pub mod Severals
+pub mod FirstSingles
+pub mod EarlyEnds
+pub mod Deciding
+pub mod Suffices

@@ -1,4 +1,5 @@
 pub mod Ruled
+pub mod Straight
 pub mod Laws
 pub mod Bits
 pub mod Candidates

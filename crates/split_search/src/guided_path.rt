@@ -15,7 +15,7 @@ use tract_classes::Class;
 /// Closed networks, each above the first the closure of the one below it with one edge's set made smaller, and a class
 /// that says which edge of the last one, the top, is split next.
 #[derive(Drop)]
-pub(crate) struct GuidedPath<'a> {
+pub struct GuidedPath<'a> {
     path: ClosedPath,
     class: &'a Class,
     size: u32,
@@ -47,7 +47,7 @@ impl<'a> GuidedPath<'a> {
     ghost use Rattle.split_search.specs.Candidates.{guided_by};
 
     /// Guides a path of one level by a class of sets of so many base relations.
-    pub(crate) fn new(
+    pub fn new(
         alloc: Global,
         path: ClosedPath,
         class: &'a Class,
@@ -67,30 +67,52 @@ impl<'a> GuidedPath<'a> {
         })
     }
 
+    /// The number of base relations.
+    pub fn size(&self) -> u32
+        ensures { result ≡ self.now.size }
+    {
+        self.size
+    }
+
+    /// Whether the top is the first level.
+    pub fn is_first(&self) -> bool
+        ensures { IsTrue result ↔ (length self.now.below ≡ 0) }
+    {
+        self.path.is_first()
+    }
+
     /// Whether the top has an empty set.
-    pub(crate) fn is_empty(&self) -> bool
+    pub fn is_empty(&self) -> bool
         ensures { IsTrue result ↔ Contains self.now.top 0 }
     {
         self.path.is_empty()
     }
 
     /// The number of edges.
-    pub(crate) fn edges(&self) -> u32
+    pub fn edges(&self) -> u32
         ensures { result ≡ edge_count self.now.nodes }
     {
         self.path.edges()
     }
 
     /// The set of an edge of the top.
-    pub(crate) fn word(&self, edge: u32) -> Rel
+    pub fn word(&self, edge: u32) -> Rel
         requires { edge < edge_count self.now.nodes }
         ensures { result ≡ slice_index self.now.top edge }
     {
         self.path.word(edge)
     }
 
+    /// Whether each set of the top is in the class.
+    pub fn is_over_class(&self) -> bool
+        requires { ¬ Contains self.now.top 0 }
+        ensures { IsTrue result ↔ All (Contains self.now.class) self.now.top }
+    {
+        self.candidates.are_over_class()
+    }
+
     /// The edge that is split next; none where each edge has one base relation.
-    pub(crate) fn next_edge(&self) -> Option<u32>
+    pub fn next_edge(&self) -> Option<u32>
         requires { ¬ Contains self.now.top 0 }
         ensures { MatchOption result
             (All (λ a. ¬ IsSeveral a) self.now.top)
@@ -100,7 +122,7 @@ impl<'a> GuidedPath<'a> {
     }
 
     /// The parts of the set of the edge that is split next.
-    pub(crate) fn next_parts(&mut self, alloc: Global, edge: u32) -> Result<Vec<Rel>, Memory>
+    pub fn next_parts(&mut self, alloc: Global, edge: u32) -> Result<Vec<Rel>, Memory>
         requires below { edge < edge_count self.old.nodes }
         requires small { self.old.size ≤ 64 }
         requires bases { HasBasesOf self.old.class (slice_index self.old.top edge) }
@@ -112,8 +134,9 @@ impl<'a> GuidedPath<'a> {
         self.parts.find(alloc, self.class, self.size, set)
     }
 
-    /// Pushes a level: the closure of the top with the set of an edge made smaller.
-    pub(crate) fn narrow(&mut self, edge: u32, rel: Rel) -> Result<(), Memory>
+    /// Pushes a level: the closure of the top with the set of an edge made smaller. If memory runs out the path is as
+    /// before.
+    pub fn narrow(&mut self, edge: u32, rel: Rel) -> Result<(), Memory>
         requires full { ¬ Contains self.old.top 0 }
         requires below { edge < edge_count self.old.nodes }
         requires within { IsWithin rel (slice_index self.old.top edge) }
@@ -121,6 +144,7 @@ impl<'a> GuidedPath<'a> {
             (IsClosure self.old.algebra self.old.nodes (slice_set self.old.top edge rel) self.new.top) }
         ensures level { OnOk result
             (self.new ≡ record self.old { top = self.new.top; below = self.old.below ++ self.old.top ∷ [] }) }
+        ensures memory { OnErr result (self.new ≡ self.old) }
     {
         self.path.narrow(edge, rel)?;
         if !self.path.is_empty() {
@@ -131,7 +155,7 @@ impl<'a> GuidedPath<'a> {
     }
 
     /// Leaves the top, if it isn't the first level.
-    pub(crate) fn leave(&mut self)
+    pub fn leave(&mut self)
         ensures left { IsLeft self.old.below self.new.below self.new.top }
         ensures rest { self.new ≡ record self.old { top = self.new.top; below = self.new.below } }
     {

@@ -15,7 +15,7 @@
 //!
 //! So a network has one tree of splits and, with a budget of splits, one verdict, which [`solve`] returns.
 //! [`laws_of_ruled_trees`] says that it has one, and what a yes and a no tell of the network; [`ruled_split`] is the
-//! split of one closed network by itself.
+//! split of one closed network by itself, and a [`GuidedPath`] has those of closed networks above one another.
 #![tactic(auto)]
 
 mod bits;
@@ -32,7 +32,8 @@ mod split;
 mod verdict;
 
 pub use choosing::ruled_split;
-pub use laws::laws_of_ruled_trees;
+pub use guided_path::GuidedPath;
+pub use laws::{laws_of_ruled_trees, laws_of_straight_classes};
 pub use searching::solve;
 pub use verdict::Verdict;
 

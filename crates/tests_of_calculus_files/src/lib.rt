@@ -9,4 +9,6 @@ mod classes;
 #[cfg(test)]
 mod set_names;
 #[cfg(test)]
+mod straight;
+#[cfg(test)]
 mod table_files;

@@ -8,3 +8,5 @@ mod asserts;
 mod labels;
 #[cfg(test)]
 mod nets;
+#[cfg(test)]
+mod networks;

@@ -11,6 +11,8 @@ mod closing;
 #[cfg(test)]
 mod gating;
 #[cfg(test)]
+mod labelling;
+#[cfg(test)]
 mod realising;
 #[cfg(test)]
 mod relating;

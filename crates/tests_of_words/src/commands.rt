@@ -243,6 +243,50 @@ fn words_of_intervals_are_taken(rt: HostRuntime) -> Result<(), Fail> {
     Ok(())
 }
 
+/// What a row says of a search for a minimal network: the calculus, the class, the budget, and the number of workers,
+/// if one is named.
+type MinimalSearch<'a> = (&'a str, &'a str, u32, Option<u32>);
+
+/// The words, and the search.
+const MINIMAL_SEARCHES: [(&[&str], MinimalSearch); 6] = [
+    (&["minimal", "rcc8"], ("rcc8", "h8", 1000, None)),
+    (&["minimal", "allen"], ("allen", "none", 1000, None)),
+    (
+        &["minimal", "--class=q8", "rcc8"],
+        ("rcc8", "q8", 1000, None),
+    ),
+    (
+        &["minimal", "t", "--class", "k", "--budget=0"],
+        ("t", "k", 0, None),
+    ),
+    (
+        &["minimal", "point", "--class=none", "--workers", "1"],
+        ("point", "none", 1000, Some(1)),
+    ),
+    (
+        &["minimal", "--workers=64", "--budget", "10000", "rcc8"],
+        ("rcc8", "h8", 10_000, Some(64)),
+    ),
+];
+
+#[test]
+fn words_of_minimal_are_taken(rt: HostRuntime) -> Result<(), Fail> {
+    for (words, search) in MINIMAL_SEARCHES {
+        let request = asked(rt.alloc(), words)?;
+        let Request::Minimal(minimal) = &request else {
+            return Err(Fail::from("no minimal network"));
+        };
+        let taken = (
+            minimal.calculus.as_str(),
+            minimal.class.as_str(),
+            minimal.budget,
+            minimal.workers,
+        );
+        assert_same_in(&rt, taken, search, words);
+    }
+    Ok(())
+}
+
 /// The words, and the polygons.
 const SCENES: [(&[&str], &str); 2] = [(&["scene", "p"], "p"), (&["scene", "a=b"], "a=b")];
 
@@ -298,7 +342,7 @@ fn words_of_demo_are_taken(rt: HostRuntime) -> Result<(), Fail> {
 }
 
 /// Words that ask for nothing.
-const OTHERS: [&[&str]; 64] = [
+const OTHERS: [&[&str]; 74] = [
     &[],
     &["--workers", "2", "close", "rcc8"],
     &["--help"],
@@ -338,6 +382,16 @@ const OTHERS: [&[&str]; 64] = [
     &["intervals", "--budget", "10001"],
     &["intervals", "--workers=0"],
     &["intervals", "--cert"],
+    &["minimal"],
+    &["minimal", "rcc8", "allen"],
+    &["minimal", "allen", "--class", "h8"],
+    &["minimal", "a.table", "--class=q8"],
+    &["minimal", "rcc8", "--class="],
+    &["minimal", "rcc8", "--budget", "10001"],
+    &["minimal", "rcc8", "--workers=0"],
+    &["minimal", "rcc8", "--workers", "65"],
+    &["minimal", "rcc8", "--cert"],
+    &["minimal", "rcc8", "--polygons", "p"],
     &["check", "rcc8"],
     &["check", "allen", "c", "--polygons", "p"],
     &["check", "rcc8", "c", "--polygons="],

@@ -46,6 +46,10 @@ module _ (class items : List ℕ) (ascending : IsStrictlyIncreasing class) (valu
   pub found : (P : ℕ → Type 0) → EachBefore class P k → k < length items → ¬ P (get_or items k 0) → IsFirstMember class P (get_or items k 0)
   found P before below here = first_member class ascending P k (get_or items k 0) (omega (arith, ap length value)) item before here
 
+  pub not_each : (P : ℕ → Type 0) → k < length items → ¬ P (get_or items k 0) → ¬ EachMember class P
+  not_each P below here each =
+      here (each (get_or items k 0) (Contains-at class k (get_or items k 0) (omega (arith, ap length value)) item))
+
   -- the same for pairs, of which those with the first k members are looked at
   pub no_more_pairs : (P : ℕ → ℕ → Type 0) → EachBefore class (λ a. EachMember class (P a)) k → length items ≤ k → EachPair class P
   no_more_pairs P before h a b c d = no_more (λ x. EachMember class (P x)) before h a c b d

@@ -3,6 +3,7 @@ pub mod ClassRows
 pub mod FirstMembers
 pub mod GeneratedMeets
 pub mod TurnedSets
+pub mod AgreeingTriples
 pub mod ReadClasses
 pub mod LargestMembers
 pub mod Counts

@@ -6,4 +6,5 @@ pub mod Generators
 pub mod Turned
 pub mod Parts
 pub mod BuiltIn
+pub mod Straight
 pub mod Laws

@@ -53,7 +53,8 @@ impl Class {
 
     /// The number of members, the empty relation counted.
     pub fn len(&self) -> u32
-        ensures { result ≡ length self.now }
+        ensures value { result ≡ length self.now }
+        ensures class { IsClass self.now }
     {
         self.members.len() as u32
     }

@@ -1,9 +1,9 @@
-//! The tests of a class: that each base relation is a member by itself, and that the class is closed under converse,
-//! intersection and composition.
+//! The tests of a class: that its members are sets of base relations of the calculus, that each base relation is one by
+//! itself, and that the class is closed under converse, intersection and composition.
 //!
 //! Each test goes through the members in ascending order, and stops at the first that fails. Those of two members first
 //! find out by fewer look-ups whether all pass, and look at each pair where they don't.
-ghost use Rattle.std.specs.Prelude.{◌≡◌, ℕ, ◌<◌, ◌≤◌, MatchResult, MatchOption, Contains};
+ghost use Rattle.std.specs.Prelude.{◌≡◌, ℕ, ◌<◌, ◌≤◌, ◌↔◌, IsTrue, MatchResult, MatchOption, Contains};
 ghost use Rattle.calculus_table.specs.Calculus.{EachBase, IsFirstBase};
 ghost use Rattle.tract_classes.specs.Class.{EachMember, IsClosedClass, HasBase, HasConverse, AreSetsOf};
 ghost use Rattle.tract_classes.specs.ClassFault.{IsFirstMember, IsFaultOf};
@@ -14,6 +14,27 @@ use crate::fault::{COMPOSITION, CONVERSE, ClassFault, MEET};
 use crate::meets::first_missing_meet;
 use calculus_table::{Compose, Rel};
 use std::alloc::Global;
+
+/// Whether the members are sets of base relations of the calculus.
+pub fn are_sets_of<C: Compose>(class: &Class, c: &C) -> bool
+    ensures { IsTrue result ↔ AreSetsOf (C.algebra c.now) class.now }
+{
+    let full = c.full();
+    for a in class.members() {
+        if !Rel::of(*a).within(full) {
+            return false;
+        }
+    }
+    true
+}
+
+/// Whether the members are sets of base relations of the calculus, each base relation is one by itself, and the class
+/// is closed under converse, intersection and composition.
+pub fn is_closed<C: Compose>(alloc: Global, class: &Class, c: &C) -> bool
+    ensures { IsTrue result ↔ IsClosedClass (C.algebra c.now) class.now }
+{
+    are_sets_of(class, c) && check_closed(alloc, class, c).is_ok()
+}
 
 /// Whether the class has each base relation and is closed: the first fault, if it isn't.
 pub(crate) fn check_closed<C: Compose>(

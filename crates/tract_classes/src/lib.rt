@@ -10,6 +10,10 @@
 //! class.has(rel)
 //! parts(alloc, &class, rel)?                  // members that together make up the set
 //! ```
+//!
+//! A class can be tested for any calculus: [`is_closed`] tells whether it has each base relation and is closed under
+//! the operations, and [`is_straight`] whether the least base relations of its members agree, so that a scenario can be
+//! read off a closed network (Renz 1999). H8 and Q8 are straight, and C8 isn't.
 #![tactic(auto)]
 
 mod built_in;
@@ -25,13 +29,16 @@ mod pairs;
 mod partition;
 mod rows;
 mod sorted;
+mod straight;
 
 pub use built_in::{c8, h8, none, q8};
 pub use class::Class;
+pub use closed::{are_sets_of, is_closed};
 pub use fault::{COMPOSITION, CONVERSE, ClassFault, MEET};
 pub use laws::{class_file_has_one_answer, laws_of_built_in_classes, laws_of_parts};
 pub use loading::load;
 pub use partition::parts;
+pub use straight::is_straight;
 
 /// The most members that a class may have, the empty relation among them.
 pub const MAX_MEMBERS: usize = 1024;

@@ -1,6 +1,7 @@
 use Rattle.std.proofs.Common.{ap, refl, sym, rules}
-use Rattle.qsr_words.specs.Asked.{close, solve, intervals, check, trace, relate, scene, demo}
-use Rattle.qsr_words.specs.Requests.{asked_of, close_of, solve_of, intervals_of, check_of, relate_of, scene_of, demo_of}
+use Rattle.qsr_words.specs.Asked.{close, solve, intervals, minimal, check, trace, relate, scene, demo}
+use Rattle.qsr_words.specs.Requests.{asked_of, close_of, solve_of, intervals_of, minimal_of, check_of, relate_of}
+use Rattle.qsr_words.specs.Requests.{scene_of, demo_of}
 use Rattle.qsr_commands.proofs.Answering.{command_runs, alone_runs, usage_runs}
 use Rattle.qsr_commands.proofs.CommandAnswers.{demo_answers}
 use Rattle.qsr_top.proofs.running.run_request.Goals as goal
@@ -25,6 +26,15 @@ returns-in-Intervals g c =
     c.write_answer-in-Intervals.new.sink (intervals (intervals_of c.in-Intervals.intervals))
     (asked_of c.args.request.now) c.intervals_answer.result c.write_answer-in-Intervals.result refl
     (sym (ap asked_of c.in-Intervals.is)) c.intervals_answer.ensures c.write_answer-in-Intervals.ensures
+
+pub returns-in-Minimal : goal.returns-in-Minimal
+returns-in-Minimal g c =
+    command_runs g.F.Source.documents g.F.Source.faults g.F.Source.given g.F.Source.absent_openings
+    g.S.Source.left g.S.Source.faults g.S.Source.given g.W.Sink.held g.W.Sink.faults
+    c.args.shelf.now c.minimal_answer.new.shelf c.args.source.now c.minimal_answer.new.source c.args.sink.now
+    c.write_answer-in-Minimal.new.sink (minimal (minimal_of c.in-Minimal.minimal))
+    (asked_of c.args.request.now) c.minimal_answer.result c.write_answer-in-Minimal.result refl
+    (sym (ap asked_of c.in-Minimal.is)) c.minimal_answer.ensures c.write_answer-in-Minimal.ensures
 
 pub returns-in-Check : goal.returns-in-Check
 returns-in-Check g c =

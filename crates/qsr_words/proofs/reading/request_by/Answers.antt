@@ -1,15 +1,17 @@
 use Rattle.std.proofs.Common.{◌≡◌, ℕ, List, None, Some, ap, map, Option, refl, rules, subst, sym, ◌∙◌}
 use Rattle.std.specs.Prelude.{IfSome, unwrap_or}
 use Rattle.std.specs.String.{string_bytes}
-use Rattle.qsr_words.specs.Asked.{command_by, close, solve, intervals, check, trace, relate, scene, serve, demo}
-use Rattle.qsr_words.specs.Asked.{close_asked, solve_asked, intervals_asked, check_asked, relate_asked, scene_asked, serve_asked, demo_asked}
-use Rattle.qsr_words.specs.Requests.{IsWithinLimits, asked_of, close_of, solve_of, intervals_of, check_of}
+use Rattle.qsr_words.specs.Asked.{close, solve, intervals, minimal, check, trace, relate, scene, serve, demo}
+use Rattle.qsr_words.specs.Asked.{close_asked, solve_asked, intervals_asked, minimal_asked, check_asked, relate_asked}
+use Rattle.qsr_words.specs.Asked.{scene_asked, serve_asked, demo_asked, command_by}
+use Rattle.qsr_words.specs.Requests.{IsWithinLimits, asked_of, close_of, solve_of, intervals_of, minimal_of, check_of}
 use Rattle.qsr_words.specs.Requests.{relate_of, scene_of, serve_of, demo_of}
 use Rattle.qsr_words.specs.declared.reading.Request.TheVariants as request
 use Rattle.qsr_words.proofs.CommandWords.{asked_of-made, IsWithinLimits-made}
 use Rattle.qsr_words.proofs.reading.request_by.Goals as goal
 use Rattle.qsr_words.proofs.reading.request_by.Goals.{in-close+in_ok-read-in-close, in-solve+in_ok-read-in-solve}
 use Rattle.qsr_words.proofs.reading.request_by.Goals.{in-intervals+in_ok-read-in-intervals}
+use Rattle.qsr_words.proofs.reading.request_by.Goals.{in-minimal+in_ok-read-in-minimal}
 use Rattle.qsr_words.proofs.reading.request_by.Goals.{in-check+in_ok-read-in-check, in-trace+in_ok-read-in-trace}
 use Rattle.qsr_words.proofs.reading.request_by.Goals.{in-relate+in_ok-read-in-relate, in-scene+in_ok-read-in-scene}
 use Rattle.qsr_words.proofs.reading.request_by.Goals.{in-serve+in_ok-read-in-serve, in-demo+in_ok-read-in-demo}
@@ -35,6 +37,12 @@ returns-clause-asked c =
           (intervals_asked words) w.map-request-in-intervals.ensures.cases (λ x. refl)
           w.in_ok-read-in-intervals.ensures.asked
           ∙ sym (ap (λ n. command_by n words) w.in-intervals.is)
+      | in-minimal+in_ok-read-in-minimal w ↦
+          unwrapped ∙ ap (λ m. asked_of (unwrap_or m request.Usage)) w.request-is
+          ∙ asked_of-made w.in_ok-read-in-minimal.field-0 _ request.Minimal minimal_of minimal
+          (minimal_asked words) w.map-request-in-minimal.ensures.cases (λ x. refl)
+          w.in_ok-read-in-minimal.ensures.asked
+          ∙ sym (ap (λ n. command_by n words) w.in-minimal.is)
       | in-check+in_ok-read-in-check w ↦
           unwrapped ∙ ap (λ m. asked_of (unwrap_or m request.Usage)) w.request-is
           ∙ asked_of-made w.in_ok-read-in-check.field-0 _ request.Check check_of check (check_asked words) w.map-request-in-check.ensures.cases (λ x. refl) w.in_ok-read-in-check.ensures.asked
@@ -83,6 +91,10 @@ returns-clause-limits c =
           subst IsWithinLimits (sym (unwrapped ∙ ap (λ m. unwrap_or m request.Usage) w.request-is))
           (IsWithinLimits-made w.in_ok-read-in-intervals.field-0 _ request.Intervals
           w.map-request-in-intervals.ensures.cases w.in_ok-read-in-intervals.ensures.limits)
+      | in-minimal+in_ok-read-in-minimal w ↦
+          subst IsWithinLimits (sym (unwrapped ∙ ap (λ m. unwrap_or m request.Usage) w.request-is))
+          (IsWithinLimits-made w.in_ok-read-in-minimal.field-0 _ request.Minimal
+          w.map-request-in-minimal.ensures.cases w.in_ok-read-in-minimal.ensures.limits)
       | in-check+in_ok-read-in-check w ↦
           subst IsWithinLimits (sym (unwrapped ∙ ap (λ m. unwrap_or m request.Usage) w.request-is))
           (IsWithinLimits-made w.in_ok-read-in-check.field-0 _ request.Check w.map-request-in-check.ensures.cases w.in_ok-read-in-check.ensures.limits)
