@@ -85,6 +85,7 @@ COMMANDS = {
     "close": "CALC [--workers N]",
     "solve": "CALC [--class C] [--polygons P] [--budget N] [--workers N] [--cert]",
     "intervals": "[--class C] [--budget N] [--workers N]",
+    "minimal": "CALC [--class C] [--budget N] [--workers N]",
     "check": "CALC CERT [--polygons P]",
     "trace": "CALC CERT [--polygons P]",
     "relate": "P [--pattern T]",
@@ -463,12 +464,20 @@ def too_long(asked, source):
     return None if asked.command in SOURCELESS else f"{source.name or 'standard input'} has more than {MOST_BYTES:,} bytes"
 
 
+def open_labels(count):
+    """What a spent budget means for so many base relations of a network that minimal writes."""
+    which, whose = ("base relation is", "its search") if count == 1 else ("base relations are", "their searches")
+    return f"{count} {which} open: the budget of splits was spent before {whose} ended"
+
+
 def status_messages(status, answer, asked, source):
     """What says why the program ended with this status, or nothing."""
     if status in (2, 4, 9):
         said = asked.fault if status == 2 else unread(asked, source) if status == 4 else too_long(asked, source)
         return [said] if said else []
     words = answer.readline().split()
+    if status == 7 and asked.command == "minimal" and len(words) == 4 and words[3].isdigit():
+        return [open_labels(int(words[3]))]
     begins = {3: [b"refused"], 8: [b"not", b"accepted"]}.get(status)
     if not begins or words[:len(begins)] != begins:
         return []

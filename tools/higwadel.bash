@@ -26,7 +26,7 @@ _higwadel_places() {
 
 _higwadel() {
   local word=${COMP_WORDS[COMP_CWORD]} before=${COMP_WORDS[COMP_CWORD - 1]} command=${COMP_WORDS[1]} options=""
-  local commands="close solve intervals check trace relate scene serve demo"
+  local commands="close solve intervals minimal check trace relate scene serve demo"
   COMPREPLY=()
   if [ "$COMP_CWORD" -eq 1 ]; then
     _higwadel_add "$commands help --help --version --build --test --install" "$word"
@@ -35,7 +35,7 @@ _higwadel() {
   case "$command" in
     close | serve) options="--workers" ;;
     solve) options="--class --polygons --budget --workers --cert" ;;
-    intervals) options="--class --budget --workers" ;;
+    intervals | minimal) options="--class --budget --workers" ;;
     check | trace) options="--polygons" ;;
     relate) options="--pattern" ;;
     help) _higwadel_add "$commands" "$word"; return ;;
@@ -46,10 +46,10 @@ _higwadel() {
     --polygons,*) _higwadel_add "" "$word" .polygons ;;
     --workers,* | --budget,* | --pattern,*) ;;
     *,-*) _higwadel_add "$options --help" "$word" ;;
-    *,close,0 | *,solve,0 | *,check,0 | *,trace,0 | *,serve,0) _higwadel_add "rcc8 allen point" "$word" .table ;;
+    *,close,0 | *,solve,0 | *,minimal,0 | *,check,0 | *,trace,0 | *,serve,0) _higwadel_add "rcc8 allen point" "$word" .table ;;
     *,relate,0 | *,scene,0) _higwadel_add "" "$word" .polygons ;;
     *,check,1 | *,trace,1) _higwadel_add "" "$word" .cert ;;
-    *,close,1 | *,solve,1 | *,intervals,0 | *,check,2 | *,trace,2) _higwadel_add "" "$word" .net ;;
+    *,close,1 | *,solve,1 | *,intervals,0 | *,minimal,1 | *,check,2 | *,trace,2) _higwadel_add "" "$word" .net ;;
     *,serve,2) _higwadel_add "" "$word" .script ;;
   esac
   # where nothing has the usual ending, any file will do

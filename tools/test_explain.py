@@ -11,16 +11,16 @@ import subprocess
 import sys
 import tempfile
 
-from explain import COMMANDS, Asked, Source, refusal, script_messages, shown, too_long, unread
+from explain import COMMANDS, Asked, Source, refusal, script_messages, shown, status_messages, too_long, unread
 
 TOOL = pathlib.Path(__file__).resolve().parent / "explain.py"
 FORMATS = TOOL.parent.parent / "docs" / "FORMATS.md"
 # the words, and what isn't understood of them
 WORDS = [
-    ("", "there is no command; there are close, solve, intervals, check, trace, relate, scene, serve, demo and help"),
+    ("", "there is no command; there are close, solve, intervals, minimal, check, trace, relate, scene, serve, demo and help"),
     ("sovle rcc8", "'sovle' is no command; did you mean solve?"),
     ("-help", "'-help' is no command; did you mean help?"),
-    ("draw x", "'draw' is no command; there are close, solve, intervals, check, trace, relate, scene, serve, demo and help"),
+    ("draw x", "'draw' is no command; there are close, solve, intervals, minimal, check, trace, relate, scene, serve, demo and help"),
     ("close", "close wants a calculus: close CALC [--workers N]"),
     ("check rcc8", "check wants a certificate: check CALC CERT [--polygons P]"),
     ("close rcc8 --worker 4", "'--worker' is no option of close; did you mean --workers?"),
@@ -41,11 +41,16 @@ WORDS = [
     ("close rcc8 no.net", "'no.net' is one word more than close takes: close CALC [--workers N]; no such file: no.net"),
     ("close rcc8 a.ne", "'a.ne' is one word more than close takes: close CALC [--workers N]; no such file: a.ne; "
      "did you mean a.net?"),
+    ("minimal --class h8", "minimal wants a calculus: minimal CALC [--class C] [--budget N] [--workers N]"),
+    ("minimal rcc8 --cert", "'--cert' is no option of minimal; it has --class, --budget, --workers"),
+    ("minimal rcc8 --budget 10001", "--budget is a number from 0 to 10000, and not '10001'"),
+    ("minimal allen --class=q8", "the class q8 goes with rcc8 alone"),
     ("relate p x", "'x' is one word more than relate takes: relate P [--pattern T]"),
     ("close rcc8 -", "'-' is no word of a command"),
     ("close rcc8", None),
     ("solve rcc8 --class h8 --polygons=p --budget 0 --workers 64 --cert", None),
     ("intervals --class none", None),
+    ("minimal rcc8 --class c8 --budget=10000 --workers 1", None),
     ("check --polygons p rcc8 c", None),
     ("relate p --pattern=-", None),
     ("serve rcc8 1", None),
@@ -183,9 +188,19 @@ UNREAD = [
     ("solve rcc8 --class ord_horn", "no class h8, c8, q8 or none, and no such file: ord_horn"),
     ("intervals --class ord_horn", "no class none, and no such file: ord_horn"),
     ("check rcc8 my.cert --polygons p", "no such file: my.cert"),
+    ("minimal a", "no calculus rcc8, allen or point, and no such file: a; did you mean a.net?"),
     ("relate folder", "folder is a folder, and no file"),
     ("relate a.net", None),
     ("close rcc8", "standard input can't be read"),
+]
+
+
+# the words, the first line of an answer that a spent budget ended, and what is said
+SPENT = [
+    ("minimal rcc8", "labels 4 2 30", ["30 base relations are open: the budget of splits was spent before their searches ended"]),
+    ("minimal rcc8", "labels 35 0 1", ["1 base relation is open: the budget of splits was spent before its search ended"]),
+    ("minimal rcc8", "labels", []),
+    ("solve rcc8", "budget 3", []),
 ]
 
 
@@ -239,6 +254,9 @@ def cases():
         yield f"script through a pipe: {line}", [re.sub(": .*", "", said) for said in through_pipe], ["line 2 of batch 2"]
     for words, expected in UNREAD:
         yield f"unread: {words}", unread(Asked(words.split()), Given(b"")), expected
+    for words, line, expected in SPENT:
+        answer = io.BytesIO(f"{line}\nnodes 1\n.\n".encode())
+        yield f"spent: {words}: {line}", status_messages(7, answer, Asked(words.split()), Given(b"")), expected
     yield "too long", too_long(Asked(["close", "rcc8"]), Given(b"")), "standard input has more than 16,777,216 bytes"
     many = [b"line %d refused 48\n" % k for k in range(1, 15)]
     yield "many refusals of a script", script_messages(many, Asked("serve rcc8 3".split()), Given(b"x\n" * 14))[10:], \
