@@ -88,6 +88,18 @@ def is_intervals(status, text, bases, _):
     return is_verdict(status, text, bases, is_schedule)
 
 
+def is_minimal(status, text, bases, _):
+    """The relations that are written are held or open; where none is open, no set is empty or each is."""
+    found = re.match(rf"labels ({NUMBER}) ({NUMBER}) ({NUMBER})\n", text)
+    sets = sets_of(text[found.end():], bases) if found else None
+    if sets is None:
+        return False
+    held, _, left_open = map(int, found.groups())
+    if held + left_open != sum(map(len, sets)) or [] in sets and (held > 0 or left_open == 0 and any(sets)):
+        return False
+    return status == (1 if [] in sets else 7 if left_open else 0)
+
+
 def is_node(node, version):
     """A node of a tree, whose steps stand last in version 2."""
     if version == 2 and node[0] in ("split", "empty"):
@@ -158,8 +170,8 @@ def is_demonstration(status, text, _, __):
     return bool(found) and status == {"yes": 0, "budget": 7}[found[1]]
 
 
-FORMS = {"close": is_closure, "solve": is_search, "intervals": is_intervals, "check": is_check, "trace": is_trace,
-         "relate": are_relations, "scene": is_scene, "serve": are_replies, "demo": is_demonstration}
+FORMS = {"close": is_closure, "solve": is_search, "intervals": is_intervals, "minimal": is_minimal, "check": is_check,
+         "trace": is_trace, "relate": are_relations, "scene": is_scene, "serve": are_replies, "demo": is_demonstration}
 
 
 def is_answer_to(words, refusals, bases, status, text):

@@ -4,6 +4,7 @@
 Usage: tools/expected_answers.py close CALC < NETWORK
        tools/expected_answers.py solve CALC [--class C] [--polygons P] [--budget N] [--cert] < NETWORK
        tools/expected_answers.py intervals [--class C] [--budget N] < NETWORK
+       tools/expected_answers.py minimal CALC [--class C] [--budget N] < NETWORK
        tools/expected_answers.py check CALC CERT [--polygons P] < NETWORK
        tools/expected_answers.py trace CALC CERT [--polygons P] < NETWORK
        tools/expected_answers.py relate P [--pattern T]
@@ -762,9 +763,13 @@ def polygons_named(path):
     return read_polygons(read_file(path)) if path else []
 
 
+def class_named(words, calculus):
+    return class_of(words.guide or ("h8" if words.calculus == "rcc8" else "none"), calculus)
+
+
 def solve(words, source):
     calculus = calculus_of(words.calculus)
-    members = class_of(words.guide or ("h8" if words.calculus == "rcc8" else "none"), calculus)
+    members = class_named(words, calculus)
     polygons = polygons_named(words.polygons)
     net = read_network(source(), calculus)
     state_facts(net, polygons)
@@ -782,6 +787,22 @@ def intervals(words, source):
     search = Search(read_network(source(), calculus), members, words.budget)
     text = f"{search.verdict} {search.splits}\n" + (schedule_text(search.scenario) if search.scenario else "")
     return text, STATUS[search.verdict]
+
+
+def minimal(words, source):
+    """Asks of each base relation of the closure whether a scenario has it at its edge, and drops those that none has."""
+    calculus = calculus_of(words.calculus)
+    members = class_named(words, calculus)
+    net = read_network(source(), calculus)
+    left, count = net.closed(), dict.fromkeys(STATUS, 0)
+    for edge, word in list(left.words.items()):
+        for base in calculus.members(word):
+            verdict = Search(net.met(edge, 1 << base), members, words.budget).verdict
+            count[verdict] += 1
+            if verdict == "no":
+                left.words[edge] ^= 1 << base
+    status = NO if left.has_empty() else BUDGET if count["budget"] else DONE
+    return f"labels {count['yes']} {count['no']} {count['budget']}\n{left.text()}", status
 
 
 def checked(words, source):
@@ -841,6 +862,7 @@ def arguments():
     for answer, name, places, options in (
             (close, "close", "calculus", "workers"), (solve, "solve", "calculus", "class polygons budget cert workers"),
             (intervals, "intervals", "", "class budget workers"),
+            (minimal, "minimal", "calculus", "class budget workers"),
             (check_command, "check", "calculus certificate", "polygons"), (trace, "trace", "calculus certificate", "polygons"),
             (relate, "relate", "polygons", "pattern"), (scene, "scene", "polygons", ""),
             (demo, "demo", "seed nodes", "")):
