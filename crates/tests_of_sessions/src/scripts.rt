@@ -490,7 +490,7 @@ impl Holding<'_> {
     /// Waits until the point was reached, for a number of turns at most.
     fn wait_for(&self, point: u32) {
         let bit = bit_of(point);
-        for _ in 0..200_000_000u64 {
+        for _ in 0..20_000_000_000u64 {
             if self.reached.load(Ordering::SeqCst) & bit == bit {
                 return;
             }
