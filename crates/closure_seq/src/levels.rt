@@ -2,7 +2,8 @@
 //! for each level how long the trail was when the level began. The level below is the top with the changes since the
 //! last mark undone, the last first. So a level costs what it changed, in time and in memory.
 
-ghost use Rattle.std.specs.Prelude.{◌≡◌, ◌-◌, length, slice_index};
+ghost use Rattle.std.specs.Prelude.{◌≡◌, ◌-◌, ◌<◌, length, slice_index, All};
+ghost use Rattle.closure_seq.specs.Levels.{restored};
 
 use calculus_table::{Memory, Rel};
 use network_words::edge_between;
@@ -59,9 +60,21 @@ fn last_mark(marks: &[usize]) -> usize
     }
 }
 
+/// The sets before the changes, of which the first came first.
+fn restore(mut sets: Vec<u64>, changes: &[Change]) -> Vec<u64>
+    requires { All (λ change. change.edge < length sets.items) changes.now }
+    ensures { result.items ≡ restored sets.items changes.now }
+{
+    for k in (0..changes.len()).rev() {
+        let change = changes[k];
+        sets[change.edge as usize] = change.old.word();
+    }
+    sets
+}
+
 impl Levels {
     ghost use Rattle.std.specs.Prelude.{◌≡◌, ◌∷◌, ◌++◌, [], ◌<◌, length, slice_index, slice_set, ◌≤◌, ◌↔◌};
-    ghost use Rattle.std.specs.Prelude.{All, IsTrue, IfSome, IfNone, OnOk, OnErr};
+    ghost use Rattle.std.specs.Prelude.{All, IsTrue, IfSome, IfNone, IfOk, OnOk, OnErr, get_or};
     ghost use Rattle.calculus_table.specs.Rel.{IsWithin};
     ghost use Rattle.network_words.specs.Edge.{edge_count, edge_at};
     ghost use Rattle.network_words.specs.declared.TheConstants.{MAX_NODES};
@@ -132,6 +145,19 @@ impl Levels {
     {
         let mark = last_mark(&self.marks);
         self.trail.split_at(mark).1
+    }
+
+    /// A copy of the sets of a level, by the number of levels below it; of the top where there are fewer.
+    pub(crate) fn sets_at(&self, alloc: Global, level: usize) -> Result<Vec<u64>, Memory>
+        ensures { IfOk result (λ sets. sets.items ≡ get_or self.now.below level self.now.top) }
+    {
+        let Ok(sets) = Vec::from_slice(alloc, &self.words) else {
+            return Err(Memory);
+        };
+        let Some(mark) = self.marks.get(level) else {
+            return Ok(sets);
+        };
+        Ok(restore(sets, self.trail.split_at(*mark).1))
     }
 
     /// Begins a level, whose sets are at first those of the top.

@@ -56,7 +56,7 @@ impl Model for ClosedPath {
 
 impl ClosedPath {
     ghost use Rattle.std.specs.Prelude.{◌≡◌, ℕ, ◌∷◌, ◌++◌, [], ◌<◌, ◌↔◌, List, length, replicate};
-    ghost use Rattle.std.specs.Prelude.{slice_index, slice_set, All, Contains, IsTrue, IfOk, OnOk, OnErr};
+    ghost use Rattle.std.specs.Prelude.{slice_index, slice_set, get_or, All, Contains, IsTrue, IfOk, OnOk, OnErr};
     ghost use Rattle.calculus_table.specs.Rel.{IsWithin};
     ghost use Rattle.calculus_table.specs.Composition.{full_of};
     ghost use Rattle.network_words.specs.Edge.{edge_count};
@@ -144,6 +144,14 @@ impl ClosedPath {
         ensures edges { All (IsChange self.now.nodes (full_of self.now.algebra)) result.now }
     {
         self.levels.changes()
+    }
+
+    /// A copy of the sets of a level, by the number of levels below it; of the top where there are fewer.
+    pub fn sets_at(&self, alloc: Global, level: usize) -> Result<Vec<u64>, Memory>
+        requires { ¬ Contains self.now.top 0 }
+        ensures { IfOk result (λ sets. sets.items ≡ get_or self.now.below level self.now.top) }
+    {
+        self.levels.sets_at(alloc, level)
     }
 
     /// Counts a level whose every set is empty.
