@@ -31,3 +31,9 @@ pub mod FirstSingles
 pub mod EarlyEnds
 pub mod Deciding
 pub mod Suffices
+pub mod Moved
+pub mod Grafts
+pub mod Placed
+pub mod Budgets
+pub mod Hints
+pub mod Tellings

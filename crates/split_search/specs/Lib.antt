@@ -6,3 +6,5 @@ pub mod Candidates
 pub mod Way
 pub mod Searches
 pub mod Verdicts
+pub mod Grafts
+pub mod Walks

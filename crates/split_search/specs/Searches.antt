@@ -46,7 +46,7 @@ task_with net budget path = record {
 }
 
 abbrev pub task_of : Search → Task
-task_of s = task_with s.net.now s.budget s.path
+task_of s = task_with s.net s.budget s.path
 
 -- what a search holds; and that with a split that was taken from its open ones
 abbrev pub held_of : Search → Held
@@ -67,7 +67,8 @@ abbrev pub children_left : List SplitState → ℕ
 children_left [] = 0
 children_left (s ∷ splits) = length s.parts - length s.children + children_left splits
 
--- no more splits than the budget, of which each has 64 parts at most: there are so many nodes and children that will be nodes
+-- no more splits than the budget, of which each has 64 parts at most: there are so many nodes and children that will
+-- be nodes
 pub record IsWithinBudget (t : Task) (held : Held) (nodes : ℕ) : Type 0 where
   pub few : held.count ≤ t.budget
   pub room : nodes + children_left held.open_splits ≤ 64 * held.count + 1
@@ -102,6 +103,9 @@ end_of Spent = at_budget
 -- ---- children that are left for later
 
 -- each child that wasn't made is a leaf now, and these are numbered on from the nodes
-pub record AreLeft (split : SplitState) (nodes : List TreeNode) (whole : SplitState) (more : List TreeNode) : Type 0 where
-  pub split_is : whole ≡ record split { children = split.children ++ range_with_len (length nodes) (length split.parts - length split.children) }
+pub record AreLeft (split : SplitState) (nodes : List TreeNode) (whole : SplitState) (more : List TreeNode) :
+    Type 0 where
+  pub split_is : whole ≡ record split {
+    children = split.children ++ range_with_len (length nodes) (length split.parts - length split.children);
+  }
   pub nodes_are : more ≡ nodes ++ replicate (length split.parts - length split.children) (leaf_node Later sweep)

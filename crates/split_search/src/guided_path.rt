@@ -35,7 +35,7 @@ impl<'a> Model for GuidedPath<'a> {
 }
 
 impl<'a> GuidedPath<'a> {
-    ghost use Rattle.std.specs.Prelude.{◌∷◌, ◌++◌, ◌≤◌, ◌↔◌, ℕ, slice_index, slice_set, All, Contains};
+    ghost use Rattle.std.specs.Prelude.{◌∷◌, ◌++◌, ◌≤◌, ◌↔◌, ℕ, slice_index, slice_set, get_or, All, Contains};
     ghost use Rattle.std.specs.Prelude.{IsTrue, OnOk, OnErr, MatchOption};
     ghost use Rattle.calculus_table.specs.Rel.{IsWithin};
     ghost use Rattle.network_words.specs.Edge.{edge_count};
@@ -81,6 +81,13 @@ impl<'a> GuidedPath<'a> {
         self.path.is_first()
     }
 
+    /// The class.
+    pub(crate) fn class(&self) -> &'a Class
+        ensures { result.now ≡ self.now.class }
+    {
+        self.class
+    }
+
     /// Whether the top has an empty set.
     pub fn is_empty(&self) -> bool
         ensures { IsTrue result ↔ Contains self.now.top 0 }
@@ -109,6 +116,14 @@ impl<'a> GuidedPath<'a> {
         ensures { IsTrue result ↔ All (Contains self.now.class) self.now.top }
     {
         self.candidates.are_over_class()
+    }
+
+    /// A copy of the sets of a level, by the number of levels below it; of the top where there are fewer.
+    pub(crate) fn sets_at(&self, alloc: Global, level: usize) -> Result<Vec<u64>, Memory>
+        requires { ¬ Contains self.now.top 0 }
+        ensures { IfOk result (λ sets. sets.items ≡ get_or self.now.below level self.now.top) }
+    {
+        self.path.sets_at(alloc, level)
     }
 
     /// The edge that is split next; none where each edge has one base relation.

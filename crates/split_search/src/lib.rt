@@ -18,6 +18,9 @@
 //! split of one closed network by itself, and a [`GuidedPath`] has those of closed networks above one another.
 #![tactic(auto)]
 
+mod adding;
+mod ahead;
+mod answered;
 mod bits;
 mod candidates;
 mod choosing;
@@ -30,12 +33,15 @@ mod laws;
 mod searching;
 mod split;
 mod verdict;
+mod walking;
 
+pub use ahead::LaterChild;
+pub use answered::Answered;
 pub use choosing::ruled_split;
 pub use guided_path::GuidedPath;
 pub use laws::{laws_of_ruled_trees, laws_of_straight_classes};
-pub use searching::solve;
 pub use verdict::Verdict;
+pub use walking::{Walk, solve};
 
 /// The greatest budget of splits.
 pub const MAX_BUDGET: u32 = 10_000;

@@ -1,7 +1,8 @@
 //! Splits and searches of networks of regions, and of colourings of the edges of a graph (Ramsey 1930).
-ghost use Rattle.std.specs.Prelude.{◌<◌, ◌≤◌, IsTrue};
+ghost use Rattle.std.specs.Prelude.{◌<◌, ◌≤◌, ◌^◌, IsTrue, length};
 ghost use Rattle.calculus_table.specs.Calculus.{EachBase};
 ghost use Rattle.tract_classes.specs.Class.{HasBase};
+ghost use Rattle.split_search.specs.Verdicts.{nodes_of};
 
 use crate::colours::{A, B, FAN, ramsey};
 use crate::nets::{have_words, is_network, net_of, put};
@@ -27,7 +28,7 @@ const ALL: u64 = 255;
 const EACH: [u64; 8] = [1, 2, 4, 8, 16, 32, 64, 128];
 
 /// Whether the class has each base relation of the calculus.
-fn has_bases(class: &Class, c: &Calculus) -> bool
+pub(crate) fn has_bases(class: &Class, c: &Calculus) -> bool
     ensures { IsTrue result → EachBase c.now.algebra (HasBase class.now) }
 {
     for r in 0..c.size() {
@@ -118,10 +119,21 @@ fn splits_of_colours_are_ruled(rt: HostRuntime) -> Result<(), Fail> {
 
 /// What a verdict says.
 #[derive(Clone, Copy, Debug, PartialEq, Eq)]
-enum Said {
+pub(crate) enum Said {
     Yes,
     No,
     Budget,
+}
+
+/// What a verdict says, and the number of splits.
+pub(crate) fn says(verdict: &Verdict) -> (Said, u32)
+    requires { length (nodes_of verdict.now) < 2 ^ 32 }
+{
+    match verdict {
+        Verdict::Yes(_, tree) => (Said::Yes, tree.splits()),
+        Verdict::No(tree) => (Said::No, tree.splits()),
+        Verdict::Budget(tree) => (Said::Budget, tree.splits()),
+    }
 }
 
 /// Searches a network, and has the scenario or the tree checked that comes with a yes or a no. Returns what is said and
@@ -135,26 +147,22 @@ fn judge(
     budget: u32,
 ) -> Result<(Said, u32), Fail> {
     assert!(rt; is_network(net, c) && has_bases(class, c) && budget <= MAX_BUDGET);
-    match solve(alloc, net, c, class, budget)? {
-        Verdict::Yes(scenario, tree) => {
-            assert!(rt; check_scenario(net, c, &scenario).is_ok());
-            Ok((Said::Yes, tree.splits()))
-        }
-        Verdict::No(tree) => {
-            assert!(rt; check_tree(alloc, net, c, &tree).is_ok());
-            Ok((Said::No, tree.splits()))
-        }
-        Verdict::Budget(tree) => Ok((Said::Budget, tree.splits())),
+    let verdict = solve(alloc, net, c, class, budget)?;
+    match &verdict {
+        Verdict::Yes(scenario, _) => assert!(rt; check_scenario(net, c, scenario).is_ok()),
+        Verdict::No(tree) => assert!(rt; check_tree(alloc, net, c, tree).is_ok()),
+        Verdict::Budget(_) => {}
     }
+    Ok(says(&verdict))
 }
 
 /// Both colours on each edge of five nodes, and of six.
 const FIVE: [u64; 10] = [A | B; 10];
 
-const SIX: [u64; 15] = [A | B; 15];
+pub(crate) const SIX: [u64; 15] = [A | B; 15];
 
 /// A network, by its nodes and sets, with the budget, what is said and the number of splits.
-type SearchRow<'a> = (u32, &'a [u64], u32, Said, u32);
+pub(crate) type SearchRow<'a> = (u32, &'a [u64], u32, Said, u32);
 
 /// Fails unless each search ends so.
 fn assert_searches(
@@ -172,7 +180,7 @@ fn assert_searches(
     Ok(())
 }
 
-const SEARCHES_OF_COLOURS: [SearchRow; 6] = [
+pub(crate) const SEARCHES_OF_COLOURS: [SearchRow; 6] = [
     (5, &FIVE, 1023, Said::Yes, 5),
     (5, &FIVE, 4, Said::Budget, 4),
     (6, &SIX, 19, Said::No, 19),
@@ -181,7 +189,7 @@ const SEARCHES_OF_COLOURS: [SearchRow; 6] = [
     (6, &FAN, 1000, Said::No, 1),
 ];
 
-const SEARCHES_OF_REGIONS: [SearchRow; 4] = [
+pub(crate) const SEARCHES_OF_REGIONS: [SearchRow; 4] = [
     (2, &[TPP | TPPI], 1000, Said::Yes, 1),
     (2, &[TPP | TPPI], 0, Said::Budget, 0),
     (2, &[0], 1000, Said::No, 0),
