@@ -9,6 +9,8 @@ mod colours;
 #[cfg(test)]
 mod nets;
 #[cfg(test)]
+mod parallel;
+#[cfg(test)]
 mod refutations;
 #[cfg(test)]
 mod scenarios;

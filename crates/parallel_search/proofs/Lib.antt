@@ -1,0 +1,3 @@
+mod Cuts
+mod Taking
+mod Walking

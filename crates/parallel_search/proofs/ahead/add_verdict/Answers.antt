@@ -1,0 +1,11 @@
+use Rattle.std.proofs.Common.{subst, sym}
+use Rattle.std.specs.List.{All}
+use Rattle.std.proofs.lemmas.List.Elements.{All-push}
+use Rattle.parallel_search.specs.Jobs.{IsAnsweredBy}
+use Rattle.parallel_search.proofs.ahead.add_verdict.Goals as goal
+
+pub returns : goal.returns
+returns g c =
+    let P = IsAnsweredBy (g.C.Compose.algebra c.args.site.now.c.now) c.args.site.now.nodes c.args.site.now.class.now in
+    subst (All P) (sym c.in-Ok.ensures.items) (All-push P c.args.done.now.items c.args.answered c.requires.done
+    c.requires.answered)
