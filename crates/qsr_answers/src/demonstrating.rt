@@ -8,16 +8,17 @@ ghost use Rattle.qsr_answers.specs.Verdicts.{verdict_word, verdict_status};
 ghost use Rattle.qsr_answers.specs.Demonstrations.{Demonstrates, demo_head, members_in_all};
 
 use crate::answers::Answer;
-use crate::sharing::workers_for;
+use crate::sharing::{searchers_for, workers_for};
 use crate::solving::{verdict_line, verdict_status};
 use calculus_builtin::rcc8;
 use calculus_table::{Memory, Rel};
 use closure_workers::close_parallel;
 use compose_fast::Fast;
 use geo_facts::demo_net;
+use parallel_search::solve_parallel;
 use qsr_outside::Gate;
 use qsr_words::{Demo, MAX_BUDGET};
-use split_search::{Verdict, solve};
+use split_search::Verdict;
 use std::alloc::Global;
 use std::thread::Threads;
 use tract_classes::h8;
@@ -37,7 +38,9 @@ pub fn demonstration<R: Threads + Sync, G: Gate + Sync>(
     let fast = Fast::new(alloc, &rcc8(alloc)?)?;
     let workers = workers_for(&net, &fast, None);
     close_parallel(rt, alloc, &mut net, &fast, workers, gate)?;
-    let verdict = solve(alloc, &net, &fast, &h8(alloc)?, MAX_BUDGET)?;
+    let class = h8(alloc)?;
+    let searchers = searchers_for(None);
+    let verdict = solve_parallel(rt, alloc, &net, &fast, &class, MAX_BUDGET, searchers, gate)?;
     let text = summary(alloc, request, kept, members_in_all(net.words()), &verdict)?;
     Ok(Answer {
         text,

@@ -1,4 +1,4 @@
-//! The search of a network for a scenario: it is closed first.
+//! The search of a network for a scenario: it is closed first. Both may be done by several workers.
 ghost use Rattle.std.specs.Prelude.{◌≡◌, ◌<◌, ◌≤◌, ◌^◌, length, IfOk, OnOk};
 ghost use Rattle.network_words.specs.Network.{IsNetwork};
 ghost use Rattle.split_search.specs.Verdicts.{nodes_of};
@@ -8,19 +8,19 @@ ghost use Rattle.qsr_inputs.specs.Inputs.{CanGuide};
 ghost use Rattle.qsr_answers.specs.Commands.{IsVerdictOn};
 ghost use Rattle.qsr_answers.specs.Verdicts.{HasScenario};
 
-use crate::sharing::workers_for;
+use crate::sharing::{searchers_for, workers_for};
 use calculus_table::{Memory, lawful};
 use closure_workers::close_parallel;
 use compose_fast::Fast;
 use network_words::Net;
+use parallel_search::solve_parallel;
 use qsr_inputs::GuidedCalculus;
 use qsr_outside::Gate;
-use split_search::{Verdict, solve};
+use split_search::Verdict;
 use std::alloc::Global;
 use std::thread::Threads;
 
-/// The verdict on a network, with at most `budget` splits. The network is left closed, which as many workers as are
-/// named do.
+/// The verdict on a network, with at most `budget` splits, by as many workers as are named. The network is left closed.
 pub(crate) fn verdict<R: Threads + Sync, G: Gate + Sync>(
     rt: &R,
     alloc: Global,
@@ -42,7 +42,9 @@ pub(crate) fn verdict<R: Threads + Sync, G: Gate + Sync>(
 {
     lawful(&guided.calculus);
     let fast = Fast::new(alloc, &guided.calculus)?;
-    let workers = workers_for(net, &fast, workers);
-    close_parallel(rt, alloc, net, &fast, workers, gate)?;
-    solve(alloc, net, &fast, &guided.class, budget)
+    let closers = workers_for(net, &fast, workers);
+    close_parallel(rt, alloc, net, &fast, closers, gate)?;
+    let searchers = searchers_for(workers);
+    let class = &guided.class;
+    solve_parallel(rt, alloc, net, &fast, class, budget, searchers, gate)
 }

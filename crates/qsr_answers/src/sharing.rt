@@ -1,9 +1,10 @@
-//! How many workers close a network. A number that the words name is obeyed. Where they name none, four workers share
-//! the edges of a network out if that pays, and else one closes it on the thread that is there, which starts no other.
+//! How many workers close a network, and search it. A number that the words name is obeyed. Where they name none,
+//! four workers share the edges of a network out if that pays, and else one closes it on the thread that is there,
+//! which starts no other.
 //!
 //! Sharing pays where the work is large and each worker does its part of it once: on a dense network of small sets
-//! they sweep rows, and make few sets less. Elsewhere each takes the edges that became less off a queue of its own, and
-//! composes again what the others have found. So three things are asked of a network, and the last two of every
+//! they sweep rows, and make few sets less. Elsewhere each takes the edges that became less off a queue of its own,
+//! and composes again what the others have found. So three things are asked of a network, and the last two of every
 //! sixteenth set of it, so that asking takes no time to speak of. `docs/PERFORMANCE.md` has the measures.
 ghost use Rattle.std.specs.Prelude.{◌≡◌, ◌*◌, ◌≤◌, IfSome};
 ghost use Rattle.calculus_table.specs.declared.TheConstants.{MAX_BASES};
@@ -37,6 +38,19 @@ pub(crate) fn workers_for<C: Compose>(net: &Net, c: &C, named: Option<u32>) -> u
     match named {
         Some(workers) => workers,
         None if is_shared(net, c) => USUAL_WORKERS,
+        None => MIN_WORKERS,
+    }
+}
+
+/// How many workers search a network: as many as are named, or else one. Where a search is long others that look ahead
+/// of it may shorten it, and make a short one longer.
+pub(crate) fn searchers_for(named: Option<u32>) -> u32
+    requires { AreWorkersIfNamed named }
+    ensures named { IfSome named (λ workers. result ≡ workers) }
+    ensures within { AreWorkers result }
+{
+    match named {
+        Some(workers) => workers,
         None => MIN_WORKERS,
     }
 }

@@ -19,7 +19,7 @@ pub struct Intervals {
     pub class: String,
     /// How many splits may be made, at most 10,000.
     pub budget: u32,
-    /// How many workers close the network first, from 1 to 64, where the words name a number.
+    /// How many workers close the network first and then search it, from 1 to 64, where the words name a number.
     pub workers: Option<u32>,
 }
 

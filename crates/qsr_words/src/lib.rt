@@ -36,7 +36,7 @@ pub const MIN_WORKERS: u32 = 1;
 /// The greatest number of workers that a command takes.
 pub const MAX_WORKERS: u32 = 64;
 
-/// The number of workers beside sessions where the words name none, and of those that share the work of closing.
+/// The number of workers beside sessions where the words name none, and of those that share other work.
 pub const USUAL_WORKERS: u32 = 4;
 
 /// The greatest budget of splits that a command takes.

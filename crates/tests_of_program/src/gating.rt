@@ -1,7 +1,7 @@
 //! What runs at one time with what, as gates see it and hold it.
 use crate::asserts::{assert_same, assert_same_in};
-use crate::runs::{CLOSE, ran, refused};
-use qsr_outside::Gate;
+use crate::runs::{CLOSE, RAMSEY, complete, ended, ran, refused, shelf_of, sink_of};
+use qsr_outside::{BytesSource, Gate};
 use qsr_top::Status;
 use std::process::Abort;
 use std::sync::atomic::{AtomicU64, Ordering};
@@ -18,19 +18,21 @@ fn came(flags: &AtomicU64, bits: u64) -> bool {
     false
 }
 
-/// A gate that counts how often it is passed.
+/// A gate that counts how often workers that close a network pass it.
 #[derive(Drop)]
 struct CountingGate {
     passes: AtomicU64,
 }
 
 impl Gate for CountingGate {
-    fn pass(&self, _point: u32) {
-        self.passes.fetch_add(1, Ordering::SeqCst);
+    fn pass(&self, point: u32) {
+        if point < 2000 {
+            self.passes.fetch_add(1, Ordering::SeqCst);
+        }
     }
 }
 
-/// How a run ends, and how often it passes the gate.
+/// How a run ends, and how often workers that close a network pass the gate.
 fn passes<R: Threads + Sync + Abort + AllocGlobal>(
     rt: &R,
     words: &[&str],
@@ -125,9 +127,9 @@ fn two_workers_begin_before_either_ends(rt: HostRuntime) -> Result<(), Fail> {
     Ok(())
 }
 
-/// The bit of a point of one of the first eight workers or sessions.
+/// The bit of a point of one of the first eight workers, sessions or children of a split.
 fn bit_of(point: u32) -> u64 {
-    1 << (point / 1000 % 4 * 8 + point % 1000 % 8)
+    1 << (point / 1000 % 6 * 8 + point % 1000 % 8)
 }
 
 /// A gate that holds points, each until another one was reached, for a number of turns at most.
@@ -192,5 +194,25 @@ fn sessions_and_workers_run_at_once(rt: HostRuntime) -> Result<(), Fail> {
         expect_done(&rt, &["serve", "rcc8", nodes], script, &gate, text)?;
         assert_same_in(&rt, gate.missed.load(Ordering::SeqCst), 0, holds);
     }
+    Ok(())
+}
+
+#[test]
+fn two_children_of_a_split_are_searched_at_once(rt: HostRuntime) -> Result<(), Fail> {
+    let alloc = rt.alloc();
+    let gate = Holding {
+        holds: &[(4000, 4001), (4001, 4000)],
+        reached: AtomicU64::new(0),
+        missed: AtomicU64::new(0),
+    };
+    let words = ["solve", "ramsey", "--workers", "2"];
+    let text = complete(alloc, 6, "( a b )", "")?;
+    let mut shelf = shelf_of(alloc, &[("ramsey", RAMSEY)])?;
+    let mut source = BytesSource::new(alloc, text.as_bytes(), 4096, &[])?;
+    let mut sink = sink_of(alloc, 4096, &[])?;
+    let status = ended(&rt, &words, &mut shelf, &mut source, &mut sink, &gate)?;
+    assert_same(&rt, status, Status::No);
+    assert_same(&rt, sink.bytes(), b"no 19\n");
+    assert_same(&rt, gate.missed.load(Ordering::SeqCst), 0);
     Ok(())
 }

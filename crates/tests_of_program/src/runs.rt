@@ -47,7 +47,7 @@ fn owned(alloc: Global, words: &[&str]) -> Result<Vec<String>, Fail> {
 }
 
 /// A shelf with these documents.
-fn shelf_of(alloc: Global, documents: &[(&str, &[u8])]) -> Result<MapShelf, Fail> {
+pub(crate) fn shelf_of(alloc: Global, documents: &[(&str, &[u8])]) -> Result<MapShelf, Fail> {
     let mut shelf = MapShelf::new(alloc, &[])?;
     for (name, bytes) in documents {
         shelf.put(name, bytes)?;
