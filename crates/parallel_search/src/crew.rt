@@ -19,8 +19,12 @@ use split_search::{Answered, Walk};
 use std::alloc::Global;
 use std::thread::Threads;
 
-/// How many nodes the children of a split have at least, in the mean, where workers look at others of them.
-const LEAST_NODES: u64 = 8;
+/// How many nodes the children of a split have at least, in the mean, where workers look at others of them: to begin a
+/// search costs as much as some 40 nodes, and to begin a round as much as 20.
+const LEAST_NODES: u64 = 128;
+
+/// How many children there are ahead for each worker: it goes on with the next where the search of one is over.
+const JOBS_EACH: usize = 3;
 
 /// A search after a round, what is ahead of it, and the search of the child to which it came, if that is to be gone on
 /// with.
@@ -98,11 +102,11 @@ fn arrive<'a, C: Compose, G: Gate>(
     }
 }
 
-/// What is ahead of a search that may have workers: further children, if it ever went back.
+/// What is ahead of a search that has so many workers beside it: further children, if it ever went back.
 fn look_on<'a, C: Compose, G: Gate>(
     alloc: Global,
     site: &Site<'_, C, G>,
-    workers: u32,
+    helpers: usize,
     walk: &Walk<'a>,
     mut ahead: Ahead<'a>,
     numbered: bool,
@@ -114,7 +118,7 @@ fn look_on<'a, C: Compose, G: Gate>(
     if !walk.has_gone_back() {
         return ahead;
     }
-    let most = workers.saturating_sub(1) as usize;
+    let most = helpers.saturating_mul(JOBS_EACH);
     ahead.look(alloc, site, walk, most, LEAST_NODES, numbered);
     ahead
 }
@@ -134,11 +138,12 @@ fn go_on<'a, R: Threads + Sync, C: Compose + Sync, G: Gate + Sync>(
     ensures { IfOk result (IsTurn (C.algebra site.now.c.now) site.now.nodes site.now.class.now
         (task_of walk.entry.search)) }
 {
+    let helpers = workers.saturating_sub(1) as usize;
     let Ahead {
         nets,
         mut jobs,
         done,
-    } = look_on(alloc, site, workers, &walk, ahead, numbered);
+    } = look_on(alloc, site, helpers, &walk, ahead, numbered);
     make_round(
         rt,
         alloc,
@@ -146,6 +151,7 @@ fn go_on<'a, R: Threads + Sync, C: Compose + Sync, G: Gate + Sync>(
         nets.as_slice(),
         numbered,
         &mut walk,
+        helpers,
         jobs.as_mut_slice(),
     )?;
     let mut ahead = Ahead {

@@ -97,7 +97,6 @@ fn search_on<'a, C: Compose, G: Gate>(
     let walk = make_steps(alloc, site, walk)?;
     if walk.is_over() {
         site.end_child(number);
-        site.signs.tell_idle();
     }
     Ok(walk)
 }

@@ -1,5 +1,5 @@
 //! A round of a search: it makes steps, while workers look ahead. The round ends when the search has made its steps or
-//! comes to a child at which somebody has looked, or after a while when a worker has nothing to do any more.
+//! comes to a child at which somebody has looked.
 ghost use Rattle.std.specs.Prelude.{◌≡◌, ◌<◌, ◌≤◌, OnOk, All, length};
 ghost use Rattle.std.specs.Thread.{IsSync};
 ghost use Rattle.split_search.specs.declared.TheConstants.{MAX_BUDGET};
@@ -18,21 +18,20 @@ use std::alloc::Global;
 use std::thread;
 use std::thread::Threads;
 
-/// How many steps the search makes in a round at most.
-const STEPS: u32 = 256;
+/// How many steps the search makes in a round at most: so many that the threads of a round cost little beside them, and
+/// so few that what workers made is soon taken over.
+const STEPS: u32 = 512;
 
-/// How many it makes before it looks whether a worker has nothing to do.
-const BUSY_STEPS: u32 = 32;
-
-/// Works on jobs at once, each in a thread of its own, until the round ends. Takes no memory for that.
+/// Works on jobs in so many threads at once, until the round ends. Takes no memory for that.
 fn work<R: Threads + Sync, C: Compose + Sync, G: Gate + Sync>(
     rt: &R,
     alloc: Global,
     site: &Site<'_, C, G>,
     budget: u32,
+    threads: usize,
     jobs: &mut [Job],
 )
-    requires some { 0 < length jobs.old }
+    requires some { 0 < threads }
     requires jobs { All (IsJob (C.algebra site.now.c.now) site.now.nodes site.now.class.now) jobs.old }
     requires budget { budget ≤ MAX_BUDGET }
     ensures { All (IsJob (C.algebra site.now.c.now) site.now.nodes site.now.class.now) jobs.new }
@@ -41,7 +40,6 @@ fn work<R: Threads + Sync, C: Compose + Sync, G: Gate + Sync>(
         requires { IsJob (C.algebra site.now.c.now) site.now.nodes site.now.class.now job.old × (budget ≤ MAX_BUDGET) }
         ensures { IsJob (C.algebra site.entry.now.c.now) site.entry.now.nodes site.entry.now.class.now job.new }
     { work_on(alloc, site, budget, job) };
-    let threads = jobs.len();
     thread::for_each_mut(rt, jobs, threads, &run);
 }
 
@@ -76,9 +74,8 @@ fn make_steps<C: Compose, G: Gate>(
     requires { IsWalk walk.old }
     ensures { OnOk result (IsSearchOf (task_of walk.old.search) walk.new) }
 {
-    for count in 0..STEPS {
-        let waits = count >= BUSY_STEPS && site.signs.is_idle();
-        if walk.is_over() || waits || is_at_one(walk, nets) {
+    for _step in 0..STEPS {
+        if walk.is_over() || is_at_one(walk, nets) {
             break;
         }
         step(alloc, site, walk, numbered)?;
@@ -102,7 +99,7 @@ fn search_on<C: Compose, G: Gate>(
     made
 }
 
-/// Makes the search's steps of a round while workers work on the jobs, of which there are some.
+/// Makes the search's steps of a round while so many workers work on the jobs.
 fn search_and_work<R: Threads + Sync, C: Compose + Sync, G: Gate + Sync>(
     rt: &R,
     alloc: Global,
@@ -110,10 +107,11 @@ fn search_and_work<R: Threads + Sync, C: Compose + Sync, G: Gate + Sync>(
     nets: &[Net],
     numbered: bool,
     walk: &mut Walk,
+    helpers: usize,
     jobs: &mut [Job],
 ) -> Result<(), Memory>
     requires walk { IsWalk walk.old }
-    requires some { 0 < length jobs.old }
+    requires some { 0 < helpers }
     requires jobs { All (IsJob (C.algebra site.now.c.now) site.now.nodes site.now.class.now) jobs.old }
     ensures searched { OnOk result (IsSearchOf (task_of walk.old.search) walk.new) }
     ensures jobs { All (IsJob (C.algebra site.now.c.now) site.now.nodes site.now.class.now) jobs.new }
@@ -127,15 +125,15 @@ fn search_and_work<R: Threads + Sync, C: Compose + Sync, G: Gate + Sync>(
     let mut others = ||
         requires { IsSync R.row × IsSync C.row × IsSync G.row
             × All (IsJob (C.algebra site.now.c.now) site.now.nodes site.now.class.now) jobs.now
-            × (0 < length jobs.now) × (left ≤ MAX_BUDGET) }
+            × (0 < helpers) × (left ≤ MAX_BUDGET) }
         ensures { All (IsJob (C.algebra site.entry.now.c.now) site.entry.now.nodes site.entry.now.class.now)
             jobs.exit.now }
-    { work(rt, alloc, site, left, jobs) };
+    { work(rt, alloc, site, left, helpers, jobs) };
     let ((), searched) = thread::join_mut(rt, &mut others, &mut own);
     searched
 }
 
-/// Makes a round: the search's steps, and beside them the jobs' as long as it goes on.
+/// Makes a round: the search's steps, and beside them the jobs' by so many workers as long as it goes on.
 pub(crate) fn make_round<R: Threads + Sync, C: Compose + Sync, G: Gate + Sync>(
     rt: &R,
     alloc: Global,
@@ -143,6 +141,7 @@ pub(crate) fn make_round<R: Threads + Sync, C: Compose + Sync, G: Gate + Sync>(
     nets: &[Net],
     numbered: bool,
     walk: &mut Walk,
+    helpers: usize,
     jobs: &mut [Job],
 ) -> Result<(), Memory>
     requires walk { IsWalk walk.old }
@@ -150,8 +149,8 @@ pub(crate) fn make_round<R: Threads + Sync, C: Compose + Sync, G: Gate + Sync>(
     ensures searched { OnOk result (IsSearchOf (task_of walk.old.search) walk.new) }
     ensures jobs { All (IsJob (C.algebra site.now.c.now) site.now.nodes site.now.class.now) jobs.new }
 {
-    if jobs.is_empty() {
+    if helpers == 0 || jobs.is_empty() {
         return search_on(alloc, site, nets, numbered, walk);
     }
-    search_and_work(rt, alloc, site, nets, numbered, walk, jobs)
+    search_and_work(rt, alloc, site, nets, numbered, walk, helpers, jobs)
 }

@@ -1,13 +1,11 @@
-//! What the workers of a round tell each other. Hints alone: nothing is promised of them, and no contract rests on
-//! them.
+//! What the workers of a round are told. A hint alone: nothing is promised of it, and no contract rests on it.
 
 use std::sync::atomic::{AtomicBool, Ordering};
 
-/// Whether a round ends, and whether some worker has nothing to do any more.
+/// Whether a round ends.
 #[derive(Drop)]
 pub(crate) struct Signs {
     ended: AtomicBool,
-    idle: AtomicBool,
 }
 
 impl Signs {
@@ -15,13 +13,11 @@ impl Signs {
     pub(crate) fn new() -> Signs {
         Signs {
             ended: AtomicBool::new(true),
-            idle: AtomicBool::new(false),
         }
     }
 
     /// A round begins.
     pub(crate) fn begin(&self) {
-        self.idle.store(false, Ordering::SeqCst);
         self.ended.store(false, Ordering::SeqCst);
     }
 
@@ -33,15 +29,5 @@ impl Signs {
     /// Whether it ends.
     pub(crate) fn is_ended(&self) -> bool {
         self.ended.load(Ordering::SeqCst)
-    }
-
-    /// Some worker has nothing to do any more.
-    pub(crate) fn tell_idle(&self) {
-        self.idle.store(true, Ordering::SeqCst);
-    }
-
-    /// Whether some worker has.
-    pub(crate) fn is_idle(&self) -> bool {
-        self.idle.load(Ordering::SeqCst)
     }
 }
